@@ -1,0 +1,11 @@
+pub mod BoundRows
+pub mod BoundSums
+pub mod Differences
+pub mod DividingEach
+pub mod DotSteps
+pub mod Eliminated
+pub mod EntryDivisors
+pub mod Fitting
+pub mod InPlace
+pub mod TakingOff
+pub mod Weighing

@@ -1,0 +1,14 @@
+-- Which vectors and sums fit.
+use Rattle.std.specs.Prelude.{List, [], ◌∷◌, ℤ, ◌+ℤ◌, ◌*ℤ◌}
+use Rattle.wide_int.specs.Whole.{FitsWhole}
+
+-- each entry fits
+abbrev pub AllFit : List ℤ → Type 0
+AllFit [] = Unit {0}
+AllFit (x ∷ xs) = FitsWhole x × AllFit xs
+
+-- each product, and each partial sum from the start on, fits
+unfoldable pub FitsDot : ℤ → List ℤ → List ℤ → Type 0
+FitsDot start [] ys = FitsWhole start
+FitsDot start (x ∷ xs) [] = FitsWhole start
+FitsDot start (x ∷ xs) (y ∷ ys) = FitsWhole (x *ℤ y) × FitsWhole (start +ℤ x *ℤ y) × FitsDot (start +ℤ x *ℤ y) xs ys

@@ -1,0 +1,58 @@
+ghost use Rattle.std.specs.Prelude.{◌≡◌, List, pos, ◌<ℤ◌, unsigned_abs};
+ghost use Rattle.wide_int.specs.Whole.{FitsWhole};
+ghost use Rattle.int_vectors.specs.Contents as contents;
+ghost use Rattle.int_vectors.specs.Contents.{DividesEach};
+ghost use Rattle.int_vectors.specs.Fits.{AllFit};
+ghost use Rattle.int_vectors.specs.Vectors.{scale};
+
+use wide_int::gcd;
+
+// The greatest common divisor of the entries.
+pub(crate) fn content(entries: &[i128]) -> i128
+    requires { AllFit entries.now }
+    ensures value { result ≡ pos (contents.content entries.now) }
+    ensures fits { FitsWhole result }
+{
+    let mut g = 0;
+    for x in entries {
+        g = gcd(g, *x);
+        if g == 1 {
+            return 1;
+        }
+    }
+    g
+}
+
+// Divides each entry by `g`, exactly.
+fn divide_all(entries: &mut [i128], g: i128)
+    requires positive { pos 0 <ℤ g }
+    requires exact { DividesEach (unsigned_abs g) entries.old }
+    ensures { entries.old ≡ scale g entries.new }
+{
+    for x in entries.iter_mut() {
+        *x = *x / g;
+    }
+}
+
+// The same for entries that fit, and then the quotients fit.
+pub(crate) fn divide_entries(entries: &mut [i128], g: i128)
+    requires positive { pos 0 <ℤ g }
+    requires exact { DividesEach (unsigned_abs g) entries.old }
+    requires fits { AllFit entries.old }
+    ensures value { entries.old ≡ scale g entries.new }
+    ensures fits { AllFit entries.new }
+{
+    divide_all(entries, g);
+}
+
+// Divides by the gcd of the entries; zeros stay.
+pub(crate) fn make_primitive(entries: &mut [i128])
+    requires { AllFit entries.old }
+    ensures value { entries.new ≡ contents.primitive entries.old }
+    ensures fits { AllFit entries.new }
+{
+    let g = content(entries);
+    if g > 1 {
+        divide_all(entries, g);
+    }
+}
