@@ -1,0 +1,16 @@
+pub mod Answered
+pub mod Carrying
+pub mod CleaningAll
+pub mod Combinations
+pub mod Entries
+pub mod InverseSums
+pub mod KernelEntries
+pub mod LeastMultiple
+pub mod Multiples
+pub mod Orthogonal
+pub mod Outcome
+pub mod Picking
+pub mod Run
+pub mod Shape
+pub mod Solving
+pub mod SpanSteps
