@@ -1,0 +1,85 @@
+use crate::{
+    Failed, MemorySink, MemorySource, ReadStop, StdSink, StdSource, SteadySource, read_all,
+    write_all,
+};
+use std::test::Fail;
+
+const TEXT: &[u8] = b"mixedcells 1\n";
+
+#[test]
+fn sources_are_read_to_the_end(rt: HostRuntime) -> Result<(), Fail> {
+    for piece in [1, 4, 13, 100] {
+        assert!(rt; piece > 0);
+        let bytes = TEXT.to_vec(rt.alloc())?;
+        let mut source = MemorySource::new(bytes, piece, Vec::new(rt.alloc()));
+        let read = read_all(rt.alloc(), &mut source)?;
+        assert_eq!(rt; read.as_slice(), TEXT, "in pieces of {piece}");
+    }
+    let mut steady = SteadySource::new(TEXT.to_vec(rt.alloc())?);
+    let read = read_all(rt.alloc(), &mut steady)?;
+    assert_eq!(rt; read.as_slice(), TEXT);
+    Ok(())
+}
+
+#[test]
+fn input_past_the_limit(rt: HostRuntime) -> Result<(), Fail> {
+    for (length, want) in [
+        (16_777_216, Ok(16_777_216)),
+        (16_777_217, Err(ReadStop::TooLong)),
+    ] {
+        let bytes = vec![in rt.alloc(); b'#'; length]?;
+        let mut source = MemorySource::new(bytes, usize::MAX, Vec::new(rt.alloc()));
+        let found = match read_all(rt.alloc(), &mut source) {
+            Ok(read) => Ok(read.len()),
+            Err(stop) => Err(stop),
+        };
+        assert_eq!(rt; found, want, "at {length} bytes");
+    }
+    Ok(())
+}
+
+#[test]
+fn a_failed_read_leaves_the_bytes(rt: HostRuntime) -> Result<(), Fail> {
+    let bytes = TEXT.to_vec(rt.alloc())?;
+    let failing = [1].to_vec(rt.alloc())?;
+    let mut source = MemorySource::new(bytes, 100, failing);
+    let first = read_all(rt.alloc(), &mut source);
+    assert!(rt; matches!(first, Err(ReadStop::Fault)));
+    let read = read_all(rt.alloc(), &mut source)?;
+    assert_eq!(rt; read.as_slice(), TEXT);
+    Ok(())
+}
+
+#[test]
+fn sinks_take_pieces(rt: HostRuntime) -> Result<(), Fail> {
+    let rows: [(usize, u64, &[u8], Result<(), Failed>); 4] = [
+        (100, 0, TEXT, Ok(())),
+        (13, 0, TEXT, Ok(())),
+        (100, 3, b"mixedcel", Err(Failed)),
+        (5, 0, b"mixed", Err(Failed)),
+    ];
+    for (room, failing, held, want) in rows {
+        let failing = [failing].to_vec(rt.alloc())?;
+        let made = MemorySink::new(rt.alloc(), room, 4, failing);
+        let Ok(mut sink) = made else {
+            return Err(Fail::from("out of memory"));
+        };
+        let found = write_all(&mut sink, TEXT);
+        assert_eq!(rt; found, want, "with room for {room}");
+        assert_eq!(rt; sink.bytes(), held, "with room for {room}");
+    }
+    Ok(())
+}
+
+#[test]
+fn std_ends_in_memory(rt: HostRuntime) -> Result<(), Fail> {
+    let mut source = StdSource::new(TEXT);
+    let read = read_all(rt.alloc(), &mut source)?;
+    let mut written = Vec::new(rt.alloc());
+    let mut sink = StdSink::new(&mut written);
+    let done = write_all(&mut sink, &read);
+    assert_eq!(rt; done, Ok(()));
+    drop(sink);
+    assert_eq!(rt; written.as_slice(), TEXT);
+    Ok(())
+}
