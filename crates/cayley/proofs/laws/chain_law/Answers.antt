@@ -1,0 +1,5 @@
+use Rattle.cayley.proofs.ComputedLaw.{chain_law}
+use Rattle.cayley.proofs.laws.chain_law.Goals as goal
+
+pub returns : goal.returns
+returns c = chain_law

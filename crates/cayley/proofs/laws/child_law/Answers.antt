@@ -1,0 +1,5 @@
+use Rattle.cayley.proofs.LifeLaws.{child_law}
+use Rattle.cayley.proofs.laws.child_law.Goals as goal
+
+pub returns : goal.returns
+returns c = child_law

@@ -1,0 +1,5 @@
+use Rattle.cayley.proofs.FlipChildren.{children_law}
+use Rattle.cayley.proofs.laws.children_law.Goals as goal
+
+pub returns : goal.returns
+returns c = children_law

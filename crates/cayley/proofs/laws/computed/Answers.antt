@@ -1,0 +1,5 @@
+use Rattle.cayley.proofs.ComputedLaw.{computed_law}
+use Rattle.cayley.proofs.laws.computed.Goals as goal
+
+pub returns : goal.returns
+returns c = computed_law

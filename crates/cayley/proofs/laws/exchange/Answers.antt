@@ -1,0 +1,5 @@
+use Rattle.cayley.proofs.FlipPlaces.{exchange_law}
+use Rattle.cayley.proofs.laws.exchange.Goals as goal
+
+pub returns : goal.returns
+returns c = exchange_law

@@ -1,0 +1,5 @@
+use Rattle.cayley.proofs.FlipPlaces.{flip_law}
+use Rattle.cayley.proofs.laws.flip_law.Goals as goal
+
+pub returns : goal.returns
+returns c = flip_law

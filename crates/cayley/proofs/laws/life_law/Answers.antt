@@ -1,0 +1,5 @@
+use Rattle.cayley.proofs.LifeLaws.{life_law}
+use Rattle.cayley.proofs.laws.life_law.Goals as goal
+
+pub returns : goal.returns
+returns c = life_law

@@ -1,0 +1,5 @@
+use Rattle.cayley.proofs.LifeLaws.{once_law}
+use Rattle.cayley.proofs.laws.once_law.Goals as goal
+
+pub returns : goal.returns
+returns c = once_law

@@ -1,0 +1,5 @@
+use Rattle.cayley.proofs.OneDependency.{dependency_law}
+use Rattle.cayley.proofs.laws.one_dependency.Goals as goal
+
+pub returns : goal.returns
+returns c = dependency_law

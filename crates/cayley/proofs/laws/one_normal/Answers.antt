@@ -1,0 +1,5 @@
+use Rattle.cayley.proofs.OneNormal.{one_normal_law}
+use Rattle.cayley.proofs.laws.one_normal.Goals as goal
+
+pub returns : goal.returns
+returns c = one_normal_law

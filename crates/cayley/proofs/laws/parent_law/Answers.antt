@@ -1,0 +1,5 @@
+use Rattle.cayley.proofs.LifeLaws.{parent_law}
+use Rattle.cayley.proofs.laws.parent_law.Goals as goal
+
+pub returns : goal.returns
+returns c = parent_law

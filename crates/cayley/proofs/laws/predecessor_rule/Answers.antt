@@ -1,0 +1,5 @@
+use Rattle.cayley.proofs.FlipSigns.{predecessor_rule}
+use Rattle.cayley.proofs.laws.predecessor_rule.Goals as goal
+
+pub returns : goal.returns
+returns c = predecessor_rule

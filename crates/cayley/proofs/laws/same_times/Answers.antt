@@ -1,0 +1,5 @@
+use Rattle.cayley.proofs.LifeLaws.{same_times_law}
+use Rattle.cayley.proofs.laws.same_times.Goals as goal
+
+pub returns : goal.returns
+returns c = same_times_law

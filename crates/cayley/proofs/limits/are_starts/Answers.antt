@@ -1,0 +1,10 @@
+use Rattle.std.proofs.Common.{ℕ, ◌<◌, ◌≤◌, ◌↔◌, rules}
+use Rattle.std.specs.Prelude.{IsTrue, ℤ, pos, ◌≤ℤ◌}
+use Rattle.std.specs.List.{All}
+use Rattle.cayley.proofs.Lists.{each_all, all_each}
+use Rattle.cayley.proofs.limits.are_starts.Goals as goal
+
+pub returns : goal.returns
+returns c =
+    let h : IsTrue c.all.result ↔ All (λ (z : ℤ). (pos 1 ≤ℤ z) × (z ≤ℤ pos 1000000000)) c.args.heights.now = search rules in
+    (λ t. each_all _ _ (h.0 t), λ e. h.1 (all_each _ _ e))

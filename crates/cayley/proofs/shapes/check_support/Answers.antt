@@ -1,0 +1,32 @@
+use Rattle.std.proofs.Common.{◌≡◌, ◌<◌, ◌+◌, arith, refl, inl, inr, ◌∙◌, sym, true, false, not}
+use Rattle.std.specs.Prelude.{IsTrue}
+use Rattle.std.specs.BTreeSet.{contains}
+use Rattle.cayley.specs.Stored.{file_point}
+use Rattle.cayley.specs.Valid.{IsWithinFile}
+use Rattle.cayley.proofs.FileFaults.{coords_of, coords_here, within_not_outside, is_repeat, sound_more}
+use Rattle.cayley.proofs.Repeats.{key_cmp, keeps_more, IsAmong}
+use Rattle.cayley.proofs.shapes.check_support.Goals as goal
+use Rattle.cayley.proofs.Lists.{not_false, not_true, no_both}
+
+pub returns-in-Ok-false : goal.returns-in-Ok-false
+returns-in-Ok-false c =
+    let w : IsWithinFile (file_point c.index-points-k.result) = c.is_within_file.ensures.0 c.if-not-is_within_file.false in
+    let there : IsTrue (contains key_cmp c.loop-k.seen c.as_slice.result) = not_false _ (sym c.in-Ok-false.ensures.added ∙ c.in-Ok-false.field-0-test) in
+    let r = (c.loop-k.invariant.seen c.as_slice.result).0 there in (
+      refl,
+      inr (is_repeat file_point c.args.points.now c.loop-k.k c.index-points-k.result c.index-points-k.is c.loop-k-test.true (r.0, r.1, r.2 ∙ c.as_slice.ensures.value)),
+      (λ q p. c.loop-k.invariant.sound q (omega arith)),
+      within_not_outside file_point c.args.points.now c.loop-k.k c.index-points-k.result c.index-points-k.is c.loop-k-test.true w,
+    )
+
+pub loop-k-preserved : goal.loop-k-preserved
+loop-k-preserved c =
+    let w : IsWithinFile (file_point c.index-points-k.result) = c.is_within_file.ensures.0 c.if-not-is_within_file.false in
+    let new : contains key_cmp c.loop-k.seen c.as_slice.result ≡ false = not_true _ (sym c.in-Ok-true.ensures.added ∙ c.in-Ok-true.field-0-test) in
+    record {
+      sound = sound_more file_point c.args.points.now c.loop-k.k c.index-points-k.result c.index-points-k.is c.loop-k-test.true w
+          (λ h. let t : contains key_cmp c.loop-k.seen c.as_slice.result ≡ true = (c.loop-k.invariant.seen c.as_slice.result).1 (h.0, h.1, h.2 ∙ sym c.as_slice.ensures.value) in no_both _ t new)
+          c.loop-k.invariant.sound;
+      seen = keeps_more c.loop-k.seen c.insert.new.self c.as_slice.result (coords_of file_point c.args.points.now) c.loop-k.k c.loop-k.invariant.seen c.in-Ok-true.ensures.updates
+          (coords_here file_point c.args.points.now c.loop-k.k c.index-points-k.result c.index-points-k.is c.loop-k-test.true ∙ sym c.as_slice.ensures.value);
+    }

@@ -1,0 +1,26 @@
+//! Points, problems and cells of lifted supports.
+#![tactic(auto)]
+
+mod cells;
+mod faults;
+mod files;
+mod found;
+pub mod laws;
+mod limits;
+mod plain;
+mod points;
+mod positions;
+mod problem_shapes;
+mod problems;
+mod rows;
+mod shapes;
+
+pub use cells::Cell;
+pub use faults::ShapeFault;
+pub use files::LiftFile;
+pub use found::{Begin, FoundCell, Normal, Place, Sign, TieProof};
+pub use points::{FilePoint, Point, Support};
+pub use problems::Problem;
+
+#[cfg(test)]
+mod tests;

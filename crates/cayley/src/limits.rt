@@ -1,0 +1,47 @@
+ghost use Rattle.std.specs.Prelude.{◌≡◌, ◌≤◌, ◌↔◌, IsTrue, unsigned_abs};
+ghost use Rattle.int_vectors.specs.Vectors.{Each};
+ghost use Rattle.cayley.specs.Stored.{file_point, point};
+ghost use Rattle.cayley.specs.Valid.{IsCornerBase, IsStart, IsWithinCorners, IsWithinFile, IsWithinProblem};
+
+use crate::points::{FilePoint, Point};
+
+// Whether no coordinate has an absolute value above `most`.
+pub(crate) fn are_within(coords: &[i128], most: u128) -> bool
+    ensures { IsTrue result ↔ Each coords.now (λ z. unsigned_abs z ≤ most) }
+{
+    coords.iter().all(|z| z.unsigned_abs() <= most)
+}
+
+/// Whether the numbers of a file point are within their limits.
+pub(crate) fn is_within_file(x: &FilePoint) -> bool
+    ensures { IsTrue result ↔ IsWithinFile (file_point x.now) }
+{
+    are_within(x.coords.as_slice(), 1_000_000) && x.height.unsigned_abs() <= 1_000_000_000
+}
+
+/// Whether the numbers of a file point of a problem are within their limits.
+pub(crate) fn is_within_problem(x: &Point) -> bool
+    ensures { IsTrue result ↔ IsWithinProblem (point x.now) }
+{
+    are_within(x.coords.as_slice(), 1_000_000) && x.base.unsigned_abs() <= 1_000_000_000
+}
+
+fn is_corner_base(base: i64) -> bool
+    ensures { IsTrue result ↔ IsCornerBase base }
+{
+    0 <= base && base <= 1_000_000_000
+}
+
+/// Whether the numbers of a corner are within their limits.
+pub(crate) fn is_within_corners(x: &Point) -> bool
+    ensures { IsTrue result ↔ IsWithinCorners (point x.now) }
+{
+    are_within(x.coords.as_slice(), 33_000_000) && is_corner_base(x.base)
+}
+
+/// Whether start heights are within their limits.
+pub(crate) fn are_starts(heights: &[i64]) -> bool
+    ensures { IsTrue result ↔ Each heights.now IsStart }
+{
+    heights.iter().all(|z| 1 <= *z && *z <= 1_000_000_000)
+}

@@ -1,0 +1,142 @@
+ghost use Rattle.std.specs.Prelude.{◌≡◌, ◌≤◌, ◌-◌, ◌+◌, ◌*◌, ◌↔◌, IsTrue, IfOk, MatchResult, length};
+ghost use Rattle.std.specs.List.{All};
+ghost use Rattle.cayley.specs.Cells.{IsOf};
+ghost use Rattle.cayley.specs.Files.{plain_problem};
+ghost use Rattle.cayley.specs.Problems.{point_at};
+ghost use Rattle.cayley.specs.Rows.{edge_rows};
+ghost use Rattle.cayley.specs.Shapes.{IsProblemFault};
+ghost use Rattle.cayley.specs.Stored.{point, problem_of};
+ghost use Rattle.cayley.specs.Valid.{IsValidProblem, support_at, file_count_at};
+
+use crate::cells::Cell;
+use crate::faults::ShapeFault;
+use crate::files::LiftFile;
+use crate::plain::resting_supports;
+use crate::points::{Point, Support};
+use crate::positions::has_positions;
+use crate::problem_shapes::check_problem;
+use crate::rows::rows_of;
+use int_vectors::IntVec;
+use std::alloc::Global;
+use std::marker::Model;
+use wide_int::OutOfMemory;
+
+/// Supports of points that have a height at every time, valid by the type.
+///
+/// The dimension n is from 1 to 16, and there are n supports of points with n coordinates each. In
+/// each support stand first 1 to 1,000 file points of speed 0 and distinct coordinates; then there
+/// is either no corner in every support, or there are n + 1 corners of speed 1 in every support.
+#[derive(Drop)]
+pub struct Problem {
+    dim: usize,
+    supports: Vec<Support>,
+}
+
+impl Model for Problem {
+    ghost use Rattle.cayley.specs.Problems.{Problem};
+    ghost use Rattle.cayley.specs.Stored.{problem_of};
+    ghost use Rattle.cayley.specs.Valid.{IsValidProblem};
+
+    ghost Value = { Problem };
+
+    ghost view = { λ p. problem_of p.dim p.supports.items };
+
+    ghost invariant = { λ p. IsValidProblem (problem_of p.dim p.supports.items) };
+}
+
+impl Problem {
+    /// The problem of these supports.
+    ///
+    /// `BadShape` exactly where `dim` isn't from 1 to 16, there aren't `dim` supports, a support
+    /// doesn't have 1 to 1,000 file points, there are other corners than none in every support or
+    /// n + 1 in every support, a point doesn't have `dim` coordinates, a file point doesn't have
+    /// speed 0 or a corner speed 1. Else, of the first point in order that breaks a rule, `Range`
+    /// where a number of it is out of its limits, and otherwise `Repeated`, since it is a file point
+    /// with the coordinates of an earlier one. A corner's coordinates are from -33,000,000 to
+    /// 33,000,000, its base from 0 to 1,000,000,000. `StartRange` never comes.
+    pub fn new(alloc: Global, dim: usize, supports: Vec<Support>) -> Result<Problem, ShapeFault>
+        ensures { let given = problem_of dim supports.items in MatchResult result (λ p. IsValidProblem given × (p ≡ given)) (IsProblemFault given) }
+    {
+        check_problem(alloc, dim, &supports)?;
+        Ok(Problem { dim, supports })
+    }
+
+    /// The problem of the file's points alone.
+    pub fn plain(alloc: Global, file: &LiftFile) -> Result<Problem, OutOfMemory>
+        ensures { IfOk result (λ p. p ≡ plain_problem file.now) }
+    {
+        let supports = resting_supports(alloc, file.supports())?;
+        Ok(Problem {
+            dim: file.dim(),
+            supports,
+        })
+    }
+
+    /// The dimension n, which is also the number of supports.
+    pub fn dim(&self) -> usize
+        ensures value { result ≡ self.now.dimension }
+        ensures valid { IsValidProblem self.now }
+    {
+        self.dim
+    }
+
+    /// The number of points of support i, counted from 1.
+    pub fn count(&self, i: u32) -> u32
+        requires least { 1 ≤ i }
+        requires greatest { i ≤ self.now.dimension }
+        ensures { result ≡ length (support_at self.now i) }
+    {
+        self.supports[i as usize - 1].points.len() as u32
+    }
+
+    /// The number of file points of support i, counted from 1.
+    pub fn file_count(&self, i: u32) -> u32
+        requires least { 1 ≤ i }
+        requires greatest { i ≤ self.now.dimension }
+        ensures { result ≡ file_count_at self.now i }
+    {
+        self.supports[i as usize - 1].file
+    }
+
+    /// The point at a position of support i; both count from 1.
+    pub fn point(&self, i: u32, position: u32) -> &Point
+        requires least { 1 ≤ i }
+        requires greatest { i ≤ self.now.dimension }
+        requires first { 1 ≤ position }
+        requires last { position ≤ length (support_at self.now i) }
+        ensures value { point result.now ≡ point_at (support_at self.now i) position }
+        ensures valid { IsValidProblem self.now }
+    {
+        let support = &self.supports[i as usize - 1];
+        &support.points[position as usize - 1]
+    }
+
+    /// Whether the point at a position of support i is a file point; both count from 1.
+    pub fn is_file_point(&self, i: u32, position: u32) -> bool
+        requires least { 1 ≤ i }
+        requires greatest { i ≤ self.now.dimension }
+        ensures { IsTrue result ↔ position ≤ file_count_at self.now i }
+    {
+        position <= self.supports[i as usize - 1].file
+    }
+
+    /// Whether the cell has n pairs and each position is at most its support's count.
+    pub fn contains(&self, cell: &Cell) -> bool
+        ensures { IsTrue result ↔ IsOf self.now cell.now }
+    {
+        has_positions(&self.supports, cell.pairs())
+    }
+
+    /// The n rows of a cell that the problem contains, one for each pair (a, b): the n differences
+    /// of the coordinates of b and a, the difference of their bases, that of their speeds, and n
+    /// numbers that are 0 but for a 1 in the place of the support. These numbers always fit.
+    pub fn edge_rows(&self, alloc: Global, cell: &Cell) -> Result<Vec<IntVec>, OutOfMemory>
+        requires { IsOf self.now cell.now }
+        ensures value { IfOk result (λ made. made.items ≡ edge_rows self.now cell.now) }
+        ensures count { IfOk result (λ made. length made.items ≡ self.now.dimension) }
+        ensures widths { IfOk result (λ made. All (λ row. length row ≡ 2 * self.now.dimension + 2) made.items) }
+        ensures valid { IsValidProblem self.now }
+    {
+        rows_of(alloc, self.dim, &self.supports, cell.pairs())
+    }
+}
