@@ -1,0 +1,4 @@
+pub mod Written
+pub mod Limits
+pub mod Counts
+pub mod ListingBack

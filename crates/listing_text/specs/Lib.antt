@@ -1,0 +1,4 @@
+pub mod Writing
+pub mod Listings
+pub mod ListingText
+pub mod Forms

@@ -1,0 +1,14 @@
+//! Listings: the text of a file with its mixed cells, written and read.
+#![tactic(auto)]
+
+mod cells;
+mod listing;
+mod reading;
+mod writing;
+
+pub use listing::{ListedCell, Listing};
+pub use reading::{read_listing, written_listing_reads_back};
+pub use writing::{write_listing, write_positions};
+
+#[cfg(test)]
+mod tests;

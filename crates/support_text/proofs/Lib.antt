@@ -1,0 +1,11 @@
+pub mod Numbers
+pub mod Series
+pub mod Among
+pub mod Kept
+pub mod Distinct
+pub mod ValidFiles
+pub mod ReadProblem
+pub mod ReadBack
+pub mod WrittenWords
+pub mod FileTexts
+pub mod Written
