@@ -1,0 +1,16 @@
+pub mod Gaps
+pub mod Rows
+pub mod Pairs
+pub mod Mixed
+pub mod Still
+pub mod Lowest
+pub mod Odometer
+pub mod Turning
+pub mod Between
+pub mod Plain
+pub mod Rising
+pub mod Points
+pub mod ReducedChoice
+pub mod Growing
+pub mod Numbering
+pub mod PlainProblem

@@ -1,0 +1,13 @@
+use Rattle.std.specs.Prelude.{IsTrue}
+use Rattle.plain_lister.specs.Order.{IsChoice}
+use Rattle.plain_lister.specs.Progress.{IsDone, Tried, steps_left}
+use Rattle.plain_lister.proofs.lists.list_choices.Given as goal
+
+abbrev pub invariant-loop-going : goal.invariant-loop-going
+invariant-loop-going l = record {
+  choice : IsTrue l.going → IsChoice l.counts l.pairs.items;
+  done : IsDone l.problem (Tried l.going l.pairs.items) l.found.items;
+}
+
+abbrev pub decreases-loop-going : goal.decreases-loop-going
+decreases-loop-going l = steps_left l.going l.counts l.pairs.items

@@ -1,0 +1,15 @@
+use Rattle.std.proofs.Common.{rules, FitsSigned, to_z-of_z}
+use Rattle.std.specs.Int.{w64, w128}
+use Rattle.plain_lister.proofs.Rising.{started}
+use Rattle.plain_lister.proofs.sums.rise.Goals as goal
+
+pub returns : goal.returns
+returns c =
+    let fd : FitsSigned w128 c.args.den = c.ranges.den in
+    let fa : FitsSigned w64 c.args.a.now.base = search rules in
+    let fc : FitsSigned w64 c.args.c.now.base = search rules in
+    let fs : FitsSigned w128 c.in_ok-start.start = search rules in
+    let s = simp to_z-of_z at c.in_ok-start.ensures.value in
+    let d = simp to_z-of_z at c.dot_between.ensures in
+    let e = rw (c.as_slice.ensures.value, c.as_slice-2.ensures.value, c.as_slice-3.ensures.value) at d in
+    started c.dot_between.result c.in_ok-start.start _ _ _ s.0 s.1 e

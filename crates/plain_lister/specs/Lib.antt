@@ -1,0 +1,5 @@
+pub mod Choices
+pub mod Workings
+pub mod Order
+pub mod Lists
+pub mod Progress

@@ -1,0 +1,135 @@
+ghost use Rattle.std.specs.Prelude.{◌≡◌, ◌<◌, ◌≤◌, ◌+◌, ◌↔◌, ℕ, Bool, IsTrue, List, map, length, MatchResult, IfOk, IfErr};
+ghost use Rattle.cayley.specs.Mixed.{IsMixedCell};
+ghost use Rattle.cayley.specs.Cells.{IsListOf};
+ghost use Rattle.cayley.specs.Valid.{IsValidProblem};
+ghost use Rattle.int_vectors.specs.Vectors.{Each};
+ghost use Rattle.plain_lister.specs.Choices.{HasTooMany, HavePairs};
+ghost use Rattle.plain_lister.specs.Lists.{HasNoCorners, HasLowestNormal, AllFit, IsPlainFault};
+ghost use Rattle.plain_lister.specs.Order.{IsChoice, firsts, left_after};
+ghost use Rattle.plain_lister.specs.Progress.{IsDone, Before, Tried, IsSearchFault, cells_of, steps_left};
+
+use crate::choices::advance;
+use crate::counting::{counts_of, excess, have_pairs};
+use crate::faults::PlainFault;
+use crate::trying::try_choice;
+use cayley::{FoundCell, Problem};
+use std::alloc::{AllocError, Global};
+
+// Tries this choice, goes to the next one, and tells whether there is one.
+fn turn(
+    alloc: Global,
+    problem: &Problem,
+    counts: &[u32],
+    pairs: &mut [(u32, u32)],
+    found: &mut Vec<FoundCell>,
+) -> Result<bool, PlainFault>
+    requires valid { IsValidProblem problem.now }
+    requires alone { HasNoCorners problem.now }
+    requires counts { counts.now ≡ map length problem.now.supports }
+    requires choice { IsChoice counts.now pairs.old }
+    requires done { IsDone problem.now (Before pairs.old) found.old.items }
+    ensures { MatchResult result
+        (λ going. (IsTrue going → IsChoice counts.now pairs.new) × IsDone problem.now (Tried going pairs.new) found.new.items
+        × steps_left going counts.now pairs.new < left_after counts.now pairs.old + 1)
+        (IsSearchFault problem.now) }
+{
+    if let Err(fault) = try_choice(alloc, problem, pairs, found) {
+        return Err(fault);
+    }
+    match advance(counts, pairs) {
+        Some(_) => Ok(true),
+        None => Ok(false),
+    }
+}
+
+// The first pair of each support.
+fn first_choice(alloc: Global, counts: &[u32]) -> Result<Vec<(u32, u32)>, AllocError>
+    ensures { IfOk result (λ pairs. pairs.items ≡ firsts counts.now) }
+{
+    let mut pairs = Vec::with_capacity(alloc, counts.len())?;
+    for _count in counts {
+        pairs.push((1, 2))?;
+    }
+    Ok(pairs)
+}
+
+// Tries all choices in cell order.
+fn list_choices(
+    alloc: Global,
+    problem: &Problem,
+    counts: &[u32],
+) -> Result<Vec<FoundCell>, PlainFault>
+    requires valid { IsValidProblem problem.now }
+    requires alone { HasNoCorners problem.now }
+    requires counts { counts.now ≡ map length problem.now.supports }
+    requires pairs { HavePairs counts.now }
+    ensures { MatchResult result (λ found. IsDone problem.now (λ _. Unit {0}) found.items) (IsSearchFault problem.now) }
+{
+    let Ok(mut pairs) = first_choice(alloc, counts) else {
+        return Err(PlainFault::OutOfMemory);
+    };
+    let mut found = Vec::new(alloc);
+    let mut going = true;
+    while going {
+        match turn(alloc, problem, counts, &mut pairs, &mut found) {
+            Ok(on) => going = on,
+            Err(fault) => return Err(fault),
+        }
+    }
+    Ok(found)
+}
+
+// No choice at all leaves an empty list.
+fn no_choices(alloc: Global, problem: &Problem, counts: &[u32]) -> Vec<FoundCell>
+    requires valid { IsValidProblem problem.now }
+    requires alone { HasNoCorners problem.now }
+    requires counts { counts.now ≡ map length problem.now.supports }
+    requires pairs { ¬ (HavePairs counts.now) }
+    ensures few { ¬ (HasTooMany problem.now) }
+    ensures done { IsDone problem.now (λ _. Unit {0}) result.items }
+{
+    Vec::new(alloc)
+}
+
+// The mixed cells of a problem whose supports have these numbers of points.
+fn list_counted(
+    alloc: Global,
+    problem: &Problem,
+    counts: &[u32],
+) -> Result<Vec<FoundCell>, PlainFault>
+    requires valid { IsValidProblem problem.now }
+    requires alone { HasNoCorners problem.now }
+    requires counts { counts.now ≡ map length problem.now.supports }
+    ensures { MatchResult result
+        (λ found. ¬ (HasTooMany problem.now) × IsDone problem.now (λ _. Unit {0}) found.items)
+        (IsPlainFault problem.now) }
+{
+    if !have_pairs(counts) {
+        return Ok(no_choices(alloc, problem, counts));
+    }
+    match excess(counts) {
+        Some(choices) => Err(PlainFault::TooMany { choices }),
+        None => list_choices(alloc, problem, counts),
+    }
+}
+
+/// The mixed cells of a problem without corners, in cell order, with their normals in lowest terms:
+/// every choice of one pair of points from each support is tried.
+///
+/// `TooMany` exactly where there are more than 1,000,000 choices; a support of one point leaves
+/// none. Else `Overflow` exactly where a number of some choice's working doesn't fit.
+pub fn plain_list(alloc: Global, problem: &Problem) -> Result<Vec<FoundCell>, PlainFault>
+    requires alone { HasNoCorners problem.now }
+    // Ok: exactly the mixed cells, each once, in cell order.
+    ensures listed { IfOk result (λ found. IsListOf (IsMixedCell problem.now) (cells_of found.items)) }
+    ensures lowest { IfOk result (λ found. Each found.items (HasLowestNormal problem.now)) }
+    // Neither refusal has its cause.
+    ensures complete { IfOk result (λ _. ¬ (HasTooMany problem.now) × AllFit problem.now) }
+    ensures refused { IfErr result (IsPlainFault problem.now) }
+{
+    let Ok(counts) = counts_of(alloc, problem) else {
+        return Err(PlainFault::OutOfMemory);
+    };
+    let _dim = problem.dim();
+    list_counted(alloc, problem, &counts)
+}

@@ -1,0 +1,62 @@
+ghost use Rattle.std.specs.Prelude.{◌≡◌, ℤ, ◌+ℤ◌, ◌-ℤ◌, ◌*ℤ◌, SomeIff, IfSome, length};
+ghost use Rattle.wide_int.specs.Whole.{FitsWhole};
+ghost use Rattle.int_vectors.specs.Fits.{FitsDot};
+ghost use Rattle.int_vectors.specs.Vectors.{Each, sub, dot};
+ghost use Rattle.cayley.specs.Stored.{point};
+ghost use Rattle.cayley.specs.Valid.{IsCoordinate, IsWithinProblem};
+ghost use Rattle.plain_lister.specs.Workings as workings;
+ghost use Rattle.plain_lister.specs.Workings.{FitsRise};
+
+use cayley::Point;
+use int_vectors::IntVec;
+use wide_int::{product, sum};
+
+// The product of a difference of two coordinates and a number.
+fn product_with(a: i128, c: i128, x: i128) -> Option<i128>
+    requires a_small { IsCoordinate a }
+    requires c_small { IsCoordinate c }
+    ensures { SomeIff result (FitsWhole ((c -ℤ a) *ℤ x)) ((c -ℤ a) *ℤ x) }
+{
+    product(c - a, x)
+}
+
+// `start` plus the sum of the products of c less a and v.
+fn dot_between(start: i128, a: &[i128], c: &[i128], v: &[i128]) -> Option<i128>
+    requires a_length { length a.now ≡ length v.now }
+    requires c_length { length c.now ≡ length v.now }
+    requires a_small { Each a.now IsCoordinate }
+    requires c_small { Each c.now IsCoordinate }
+    requires fits { FitsWhole start }
+    ensures { SomeIff result (FitsDot start (sub c.now a.now) v.now) (start +ℤ dot (sub c.now a.now) v.now) }
+{
+    let mut total = start;
+    for (i, x) in v.iter().enumerate() {
+        total = sum(total, product_with(a[i], c[i], *x)?)?;
+    }
+    Some(total)
+}
+
+// The denominator times the difference of two heights.
+fn scaled_height(den: i128, a: i64, c: i64) -> Option<i128>
+    ensures value { SomeIff result (FitsWhole (den *ℤ (c -ℤ a))) (den *ℤ (c -ℤ a)) }
+    ensures fits { IfSome result (λ start. FitsWhole start) }
+{
+    product(den, i128::from(c) - i128::from(a))
+}
+
+// The sum for point `c` against point `a` under the numbers `v` over `den`.
+pub(crate) fn rise(den: i128, v: &IntVec, a: &Point, c: &Point) -> Option<i128>
+    requires a_length { length a.now.coords ≡ length v.now }
+    requires c_length { length c.now.coords ≡ length v.now }
+    requires a_within { IsWithinProblem (point a.now) }
+    requires c_within { IsWithinProblem (point c.now) }
+    ensures { SomeIff result (FitsRise den v.now (point a.now) (point c.now)) (workings.rise den v.now (point a.now) (point c.now)) }
+{
+    let start = scaled_height(den, a.base, c.base)?;
+    dot_between(
+        start,
+        a.coords.as_slice(),
+        c.coords.as_slice(),
+        v.as_slice(),
+    )
+}
