@@ -1,0 +1,105 @@
+-- where the working of a mixed cell fits, so do the sums of its further points under its normal in lowest terms
+use Rattle.std.proofs.Common.{◌≡◌, ℕ, zero, suc, ◌+◌, ◌*◌, ◌<◌, ◌/◌, List, [], ◌∷◌, ◌++◌, length, arith, refl, sym, ap, subst, subst₂, ◌∙◌, ◌<ℤ◌, unsigned_abs, Result, Ok, Err}
+use Rattle.std.proofs.lemmas.Int.{ints}
+use Rattle.std.proofs.Math.IntN.{ℤ, pos, negsuc}
+use Rattle.wide_int.proofs.CommonDivisors.{lcm_positive, quotient_times}
+use Rattle.wide_int.proofs.Signed.{abs_positive}
+use Rattle.int_vectors.specs.Vectors.{scale, at, IsOrthogonal}
+use Rattle.reduced_rows.specs.Denominators.{lcm_from, shares, zeros}
+use Rattle.reduced_rows.specs.Spans.{IsReduced, IsReducedOf}
+use Rattle.reduced_rows.specs.Steps.{elimination}
+use Rattle.reduced_rows.proofs.Orthogonal.{length-shares}
+use Rattle.reduced_rows.proofs.Outcome.{reduced_means, kernel_means_it}
+use Rattle.reduced_rows.proofs.Solving.{column_solves}
+use Rattle.cayley.specs.Times.{time_zero}
+use Rattle.cayley.specs.Problems.{Problem, IsProblem, point_at}
+use Rattle.cayley.specs.Cells.{Cell, IsOf, IsIndependent}
+use Rattle.cayley.specs.Mixed.{IsCoprime}
+use Rattle.cayley.specs.Rows.{edge_rows}
+use Rattle.cayley.proofs.OneNormal.{same_values}
+use Rattle.cell_certificate.specs.Sums.{FitsRise, FitsAt, FitsFurther}
+use Rattle.cell_certificate.specs.Tests.{normal_over, IsLevelAt}
+use Rattle.cell_certificate.specs.Written.{FitsWorking}
+use Rattle.cell_certificate.proofs.EdgeRows.{rows_count, rows_lengths, level_from, kernel_denies}
+use Rattle.cell_certificate.proofs.Levels.{HasNoRanks, level_to}
+use Rattle.cell_certificate.proofs.MixedLines.{first_entries}
+use Rattle.cell_certificate.proofs.Multiples.{divides_whole, multiple_is, rise_less}
+use Rattle.cell_certificate.proofs.Together.{pairs_map}
+
+lcm_up : (n j l : ℕ) (rows : List (List ℤ)) → IsReduced n j rows → 0 < l → 0 < lcm_from j l rows
+unfolding lcm_from
+lcm_up n j l [] r p = p
+lcm_up n j l (row ∷ rows) r p = lcm_up n (suc j) _ rows r.2 (lcm_positive l (unsigned_abs (at row j)) p (abs_positive (at row j) r.0))
+
+no_zeros : (xs : List ℤ) → xs ++ zeros 0 ≡ xs
+unfolding zeros
+no_zeros [] = refl
+no_zeros (x ∷ xs) = ap (λ l. x ∷ l) (no_zeros xs)
+
+solved : (n : ℕ) (rows made : List (List ℤ)) → IsReducedOf n rows made → IsOrthogonal rows (shares n 0 (lcm_from 0 1 made) made ++ (pos (lcm_from 0 1 made) ∷ []))
+solved n rows made red =
+    let s = column_solves n 0 rows made red in
+    let e : n + 0 ≡ n = omega arith in
+    subst (λ l. IsOrthogonal rows (l ++ (pos (lcm_from 0 1 made) ∷ []))) (no_zeros (shares (n + 0) 0 (lcm_from 0 1 made) made) ∙ ap (λ k. shares k 0 (lcm_from 0 1 made) made) e) s
+
+module _ (p : Problem) (cell : Cell) (well : IsProblem p) (even : HasNoRanks p.supports) (of : IsOf p cell) (ind : IsIndependent p cell)
+    (d : ℕ) (v : List ℤ) (long : length v ≡ p.dimension) (up : 0 < d) (coprime : IsCoprime (pos d ∷ v)) (level : IsLevelAt p cell v (pos d)) where
+  module _ (made : List (List ℤ)) (red : IsReducedOf p.dimension (edge_rows p cell) made) where
+    abbrev pub l : ℕ
+    l = lcm_from 0 1 made
+
+    abbrev pub ps : List ℤ
+    ps = shares p.dimension 0 l made
+
+    l_up : 0 < l
+    l_up = lcm_up p.dimension 0 1 made red.reduced (omega arith)
+
+    ps_long : length ps ≡ p.dimension
+    ps_long = length-shares p.dimension 0 l made ∙ red.count
+
+    l_positive : pos 0 <ℤ pos l
+    l_positive = let h = l_up in omega (arith, ints, h)
+
+    own : IsLevelAt p cell ps (pos l)
+    own = level_to p cell even of ps (pos l) ps_long l_positive
+        (level_from p.dimension 0 p.supports cell ps (pos l) ps_long well.points of (solved p.dimension (edge_rows p cell) made red))
+
+    proportion : scale (pos d) ps ≡ scale (pos l) v
+    proportion =
+        let s = same_values p cell time_zero (normal_over ps (pos l) own.0) (normal_over v (pos d) level.0) well of ind own.1 level.1 0 in
+        ap (scale (pos d)) (sym (first_entries ps)) ∙ s ∙ ap (scale (pos l)) (first_entries v)
+
+    abbrev j : ℕ
+    j = l / d
+
+    l_is : l ≡ d * j
+    l_is = let q = quotient_times l d (divides_whole d l ps v l_up coprime proportion) in omega (arith, q)
+
+    j_up : 0 < j
+    j_up = from j l_is
+      where
+        from : (j : ℕ) → l ≡ d * j → 0 < j
+        from zero e = absurd (let h = l_up in omega (arith, h, e))
+        from (suc j) e = omega arith
+
+    pub reduced_further : FitsFurther p cell ps (pos l) → FitsFurther p cell v (pos d)
+    reduced_further f =
+        let e = multiple_is d j ps v up (proportion ∙ ap (λ n. scale (pos n) v) l_is) in
+        pairs_map p.supports cell (λ s a b. (c : ℕ) → FitsAt (pos l) ps s a b c) (λ s a b. (c : ℕ) → FitsAt (pos d) v s a b c) f
+        (λ s a b g c u. rise_less d j v (point_at s a) (point_at s c) j_up (subst₂ (λ n xs. FitsRise (pos n) xs (point_at s a) (point_at s c)) l_is e (g c u)))
+
+  by_result : (r : Result (List (List ℤ)) (List ℤ)) → elimination p.dimension (edge_rows p cell) ≡ r → FitsWorking p cell → FitsFurther p cell v (pos d)
+  by_result (Ok made) e w =
+      let m = rows_lengths p cell well of in
+      reduced_further made (reduced_means p.dimension m.0 (edge_rows p cell) made (rows_count p cell well of) m.2 e) (w.1 made e)
+  by_result (Err kernel) e w =
+      let m = rows_lengths p cell well of in
+      absurd (kernel_denies p cell well of kernel (kernel_means_it p.dimension m.0 (edge_rows p cell) kernel (rows_count p cell well of) m.2 e) ind)
+
+  natural_further : FitsWorking p cell → FitsFurther p cell v (pos d)
+  natural_further w = by_result (elimination p.dimension (edge_rows p cell)) refl w
+
+pub further_fits : (p : Problem) (cell : Cell) → IsProblem p → HasNoRanks p.supports → IsOf p cell → IsIndependent p cell
+    → (den : ℤ) (v : List ℤ) → length v ≡ p.dimension → pos 0 <ℤ den → IsCoprime (den ∷ v) → IsLevelAt p cell v den → FitsWorking p cell → FitsFurther p cell v den
+further_fits p cell well even of ind (pos d) v long h coprime level w = natural_further p cell well even of ind d v long (omega (arith, ints, h)) coprime level w
+further_fits p cell well even of ind (negsuc d) v long h coprime level w = absurd (omega (arith, ints, h))

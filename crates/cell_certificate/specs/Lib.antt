@@ -1,0 +1,7 @@
+pub mod Sums
+pub mod Sides
+pub mod Tests
+pub mod Ranks
+pub mod Judgements
+pub mod Answers
+pub mod Written

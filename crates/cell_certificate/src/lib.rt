@@ -1,0 +1,16 @@
+//! The exact checker of listings.
+#![tactic(auto)]
+
+mod checker;
+mod judge;
+mod judgement;
+mod rank;
+mod sides;
+mod sums;
+mod verdict;
+
+pub use checker::check;
+pub use verdict::{CheckFault, Verdict};
+
+#[cfg(test)]
+mod tests;
