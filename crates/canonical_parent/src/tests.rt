@@ -1,0 +1,47 @@
+use crate::keeps;
+use cayley::{Cell, Sign};
+use flip_rule::Signs;
+use std::alloc::Global;
+
+// Whether the cell 1 4 keeps the child where point 2 is level.
+fn one_four(alloc: Global, child: (u32, u32), a: Sign, b: Sign) -> Option<bool> {
+    let cell = Cell::new(alloc, &[(1, 4)])?;
+    let child = Cell::new(alloc, &[child])?;
+    let signs = Signs::new(a, b)?;
+    Some(keeps(&cell, &child, 1, 2, &signs))
+}
+
+// Whether the cell 1 2 keeps the child where point 4 is level.
+fn one_two(alloc: Global, child: (u32, u32), a: Sign, b: Sign) -> Option<bool> {
+    let cell = Cell::new(alloc, &[(1, 2)])?;
+    let child = Cell::new(alloc, &[child])?;
+    let signs = Signs::new(a, b)?;
+    Some(keeps(&cell, &child, 1, 4, &signs))
+}
+
+#[test]
+fn two_cells_that_become_one(rt: HostRuntime) {
+    assert_eq!(rt;
+        one_four(rt.alloc(), (2, 4), Sign::Minus, Sign::Plus),
+        Some(false)
+    );
+    assert_eq!(rt;
+        one_two(rt.alloc(), (2, 4), Sign::Minus, Sign::Plus),
+        Some(true)
+    );
+}
+
+#[test]
+fn a_cell_that_splits_keeps_both(rt: HostRuntime) {
+    for (child, want) in [
+        ((1, 2), true),
+        ((2, 4), true),
+        ((1, 4), false),
+        ((1, 3), false),
+    ] {
+        assert_eq!(rt;
+            one_four(rt.alloc(), child, Sign::Minus, Sign::Minus),
+            Some(want)
+        );
+    }
+}

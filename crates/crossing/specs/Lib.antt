@@ -1,0 +1,6 @@
+pub mod Entries
+pub mod Exits
+pub mod Found
+pub mod Leading
+pub mod Lines
+pub mod Places

@@ -1,0 +1,91 @@
+ghost use Rattle.std.specs.Prelude.{◌≡◌, ◌<◌, ◌≤◌, pos, All, HoldsAt, length, IsTrue, ◌↔◌, ℕ};
+ghost use Rattle.crossing.specs.Lines.{FitsLine};
+ghost use Rattle.crossing.specs.Leading.{Goes, IsLed};
+ghost use Rattle.crossing.specs.Entries.{IsEntry};
+ghost use Rattle.crossing.specs.Found.{IsLow, IsOpen, RisesFirst};
+
+use crate::leaders::{Leaders, Way, leaders_of};
+use crate::line::{WallLine, zero_of};
+use wide_int::{Frac, compare};
+
+/// Where the time on which all lines are positive begins. Places count from 1.
+#[derive(Clone, Copy, Debug, PartialEq, Eq)]
+pub enum Entry {
+    /// No line rises.
+    Always,
+    /// One line alone rises from zero at this time, after all others that rise.
+    At {
+        time: Frac,
+        which: usize,
+    },
+    /// The first two of the lines that rise from zero at this time, after all others that rise.
+    Tied {
+        time: Frac,
+        first: usize,
+        second: usize,
+    },
+    /// No time makes every line positive.
+    Dead,
+}
+
+// Whether a line is zero or negative at all times.
+fn has_low(lines: &[WallLine]) -> bool
+    ensures { IsTrue result ↔ ((k : ℕ) × (k < length lines.now) × HoldsAt IsLow lines.now k) }
+{
+    for line in lines {
+        if line.beta == 0 && line.alpha <= 0 {
+            return true;
+        }
+    }
+    false
+}
+
+// Whether the zero of a rising line comes before that of a falling line.
+fn comes_before(rise: &WallLine, fall: &WallLine) -> bool
+    requires rise_fits { FitsLine rise.now }
+    requires fall_fits { FitsLine fall.now }
+    requires rises { Goes Way.Rising rise.now }
+    requires falls { Goes Way.Falling fall.now }
+    ensures { IsTrue result ↔ RisesFirst rise.now fall.now }
+{
+    compare(-rise.alpha, rise.beta, fall.alpha, -fall.beta).is_lt()
+}
+
+// Whether the last zero of a rising line comes before the first zero of a falling line.
+fn is_open(lines: &[WallLine], rising: Leaders, falling: Leaders) -> bool
+    requires fit { All FitsLine lines.now }
+    requires rise { IsLed Way.Rising lines.now (length lines.now) rising }
+    requires fall { IsLed Way.Falling lines.now (length lines.now) falling }
+    ensures { IsTrue result ↔ IsOpen lines.now rising falling }
+{
+    let (Some(rise), Some(fall)) = (rising.first(), falling.first()) else {
+        return true;
+    };
+    comes_before(&lines[rise], &lines[fall])
+}
+
+/// The entry of the lines: `Dead` exactly where no time makes every line positive; else `Always`
+/// exactly where no line rises; else the greatest zero of a rising line.
+pub fn entry_of(lines: &[WallLine]) -> Entry
+    requires { All FitsLine lines.now }
+    ensures rule { IsEntry lines.now result }
+    ensures only { (other : Entry) → IsEntry lines.now other → other ≡ result }
+{
+    let rising = leaders_of(Way::Rising, lines);
+    let falling = leaders_of(Way::Falling, lines);
+    if has_low(lines) || !is_open(lines, rising, falling) {
+        return Entry::Dead;
+    }
+    match rising {
+        Leaders::None => Entry::Always,
+        Leaders::One(index) => Entry::At {
+            time: zero_of(&lines[index]),
+            which: index + 1,
+        },
+        Leaders::Two(first, second) => Entry::Tied {
+            time: zero_of(&lines[first]),
+            first: first + 1,
+            second: second + 1,
+        },
+    }
+}

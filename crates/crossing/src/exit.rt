@@ -1,0 +1,74 @@
+ghost use Rattle.std.specs.Prelude.{◌≡◌, ◌<◌, ◌≤◌, pos, All, HoldsAt, length, MatchOption, IsTrue, ◌↔◌};
+ghost use Rattle.crossing.specs.Lines.{FitsLine, IsFlat};
+ghost use Rattle.crossing.specs.Exits.{IsExit};
+ghost use Rattle.crossing.specs.Found.{IsFirstFlat};
+
+use crate::leaders::{Leaders, Way, leaders_of};
+use crate::line::{WallLine, zero_of};
+use wide_int::Frac;
+
+/// Where the time on which all lines are positive ends. Places count from 1.
+#[derive(Clone, Copy, Debug, PartialEq, Eq)]
+pub enum Exit {
+    /// No line falls, and none is zero at all times.
+    Never,
+    /// One line alone falls to zero at this time, before all others that fall.
+    At {
+        time: Frac,
+        which: usize,
+    },
+    /// The first two of the lines that fall to zero at this time, before all others that fall.
+    Tied {
+        time: Frac,
+        first: usize,
+        second: usize,
+    },
+    /// The first line that is zero at all times.
+    Flat {
+        which: usize,
+    },
+}
+
+fn is_flat(line: &WallLine) -> bool
+    requires { FitsLine line.now }
+    ensures { IsTrue result ↔ IsFlat line.now }
+{
+    line.alpha == 0 && line.beta == 0
+}
+
+// The index of the first line that is zero at all times.
+fn first_flat(lines: &[WallLine]) -> Option<usize>
+    requires { All FitsLine lines.now }
+    ensures { IsFirstFlat lines.now result }
+{
+    for (index, line) in lines.iter().enumerate() {
+        if is_flat(line) {
+            return Some(index);
+        }
+    }
+    None
+}
+
+/// The exit of the lines: `Flat` exactly where some line is zero at all times; else `Never` exactly
+/// where no line falls; else the least zero of a falling line.
+pub fn exit_of(lines: &[WallLine]) -> Exit
+    requires { All FitsLine lines.now }
+    ensures rule { IsExit lines.now result }
+    ensures only { (other : Exit) → IsExit lines.now other → other ≡ result }
+{
+    if let Some(index) = first_flat(lines) {
+        return Exit::Flat { which: index + 1 };
+    }
+    match leaders_of(Way::Falling, lines) {
+        Leaders::None => Exit::Never,
+        Leaders::One(index) => Exit::At {
+            time: zero_of(&lines[index]),
+            which: index + 1,
+        },
+        Leaders::Two(first, second) => Exit::Tied {
+            time: zero_of(&lines[first]),
+            first: first + 1,
+            second: second + 1,
+        },
+    }
+}

@@ -1,0 +1,4 @@
+pub mod NumberSigns
+pub mod Rules
+mod Walls
+pub mod Pairs

@@ -1,0 +1,4 @@
+pub mod Few
+pub mod Signs
+pub mod Rules
+pub mod Walls
