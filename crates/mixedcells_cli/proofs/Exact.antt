@@ -1,0 +1,208 @@
+-- What the words and the input call for is one outcome.
+use Rattle.std.proofs.Common.{◌≡◌, ◌⊎◌, ◌↔◌, ℕ, ◌<◌, ◌≤◌, ◌∙◌, List, [], ◌∷◌, length, Option, Some, None, Result, Ok, Err, codes, take, refl, sym, ap, ap₂, subst, arith, inl, inr, ⊎_elim}
+use native.Mathlib.Decide.{ℕ_discrete, dec_lt}
+use Rattle.cayley.specs.Problems.{Problem}
+use Rattle.cayley.specs.Cells.{Cell, IsLess, IsOf}
+use Rattle.cayley.specs.Files.{File, plain_problem}
+use Rattle.cayley.proofs.Listing.{compare_cells}
+use Rattle.support_text.specs.declared.fault.FormatFault.{FormatFault}
+use Rattle.support_text.specs.ProblemText.{problem_of}
+use Rattle.listing_text.specs.Listings.{IsListingOf}
+use Rattle.plain_lister.specs.Choices.{IsExcess, HasTooMany, product, pair_counts}
+use Rattle.plain_lister.specs.Lists.{IsFirstUnfit, AllFit}
+use Rattle.mixedcells_cli.specs.declared.words.Command.{Command}
+use Rattle.mixedcells_cli.specs.declared.words.Command.TheVariants as verb
+use Rattle.mixedcells_cli.specs.declared.outcome.Outcome.{Outcome}
+use Rattle.mixedcells_cli.specs.declared.outcome.Outcome.TheVariants as variant
+use Rattle.mixedcells_cli.specs.Words.{Means, HasMeaning}
+use Rattle.mixedcells_cli.specs.Outcomes.{status_of}
+use Rattle.mixedcells_cli.specs.Answers.{limit, IsListReply, IsPlainReply, IsReply, TellsFault}
+use Rattle.mixedcells_cli.specs.Runs.{IsAnswer, IsInput, IsCalledFor, IsFree}
+
+three_ways : {P : Type 0} (m n : ℕ) → (m < n → P) → (m ≡ n → P) → (n < m → P) → P
+three_ways m n f g h = elim (dec_lt m n) [ yes p ↦ f p | no q ↦ elim (ℕ_discrete m n) [ yes e ↦ g e | no r ↦ h (omega arith) ] ]
+
+one_excess : (p : Problem) (c d : ℕ) → IsExcess p c → IsExcess p d → c ≡ d
+one_excess p c d h k =
+    three_ways h.1.0 k.1.0
+    (λ l. absurd (let e = k.1.2 h.1.0 l in let a = h.1.1 in let b = h.0 in omega (arith, e, a, b)))
+    (λ e. sym h.1.1 ∙ ap (λ n. product (take n (pair_counts p.supports))) e ∙ k.1.1)
+    (λ l. absurd (let e = h.1.2 k.1.0 l in let a = k.1.1 in let b = k.0 in omega (arith, e, a, b)))
+
+one_unfit : (p : Problem) (x y : Cell) → IsFirstUnfit p x → IsFirstUnfit p y → x ≡ y
+one_unfit p x y h k = elim (compare_cells x y) [
+  | inl l ↦ absurd (h.1 (k.2 x h.0 l))
+  | inr q ↦ elim q [ inl e ↦ e | inr l ↦ absurd (k.1 (h.2 y k.0 l)) ]
+]
+
+one_list_reply : (file : File) (o q : Outcome) (t u : List ℕ) → IsListReply file o t → IsListReply file q u → o ≡ q
+one_list_reply file (variant.No line reason) q t u h k = absurd h
+one_list_reply file variant.Usage q t u h k = absurd h
+one_list_reply file (variant.Format line kind) q t u h k = absurd h
+one_list_reply file (variant.OverflowLine line) q t u h k = absurd h
+one_list_reply file variant.ReadFault q t u h k = absurd h
+one_list_reply file variant.WriteFault q t u h k = absurd h
+one_list_reply file variant.OutOfMemory q t u h k = absurd h
+one_list_reply file variant.TooLong q t u h k = absurd h
+one_list_reply file variant.Ok variant.Ok t u h k = refl
+one_list_reply file variant.Ok (variant.No line' reason') t u h k = absurd k
+one_list_reply file variant.Ok variant.Usage t u h k = absurd k
+one_list_reply file variant.Ok (variant.Format line' kind') t u h k = absurd k
+one_list_reply file variant.Ok (variant.OverflowCell cell') t u h k = absurd (k.2.1 (h.1 cell' k.2.0))
+one_list_reply file variant.Ok (variant.OverflowLine line') t u h k = absurd k
+one_list_reply file variant.Ok variant.ReadFault t u h k = absurd k
+one_list_reply file variant.Ok variant.WriteFault t u h k = absurd k
+one_list_reply file variant.Ok variant.OutOfMemory t u h k = absurd k
+one_list_reply file variant.Ok variant.TooLong t u h k = absurd k
+one_list_reply file variant.Ok (variant.TooMany choices') t u h k = absurd (h.0 k.1)
+one_list_reply file (variant.TooMany choices) variant.Ok t u h k = absurd (k.0 h.1)
+one_list_reply file (variant.TooMany choices) (variant.No line' reason') t u h k = absurd k
+one_list_reply file (variant.TooMany choices) variant.Usage t u h k = absurd k
+one_list_reply file (variant.TooMany choices) (variant.Format line' kind') t u h k = absurd k
+one_list_reply file (variant.TooMany choices) (variant.OverflowCell cell') t u h k = absurd (k.1 h.1)
+one_list_reply file (variant.TooMany choices) (variant.OverflowLine line') t u h k = absurd k
+one_list_reply file (variant.TooMany choices) variant.ReadFault t u h k = absurd k
+one_list_reply file (variant.TooMany choices) variant.WriteFault t u h k = absurd k
+one_list_reply file (variant.TooMany choices) variant.OutOfMemory t u h k = absurd k
+one_list_reply file (variant.TooMany choices) variant.TooLong t u h k = absurd k
+one_list_reply file (variant.TooMany choices) (variant.TooMany choices') t u h k = ap variant.TooMany (one_excess (plain_problem file) choices choices' h.2 k.2)
+one_list_reply file (variant.OverflowCell cell) variant.Ok t u h k = absurd (h.2.1 (k.1 cell h.2.0))
+one_list_reply file (variant.OverflowCell cell) (variant.No line' reason') t u h k = absurd k
+one_list_reply file (variant.OverflowCell cell) variant.Usage t u h k = absurd k
+one_list_reply file (variant.OverflowCell cell) (variant.Format line' kind') t u h k = absurd k
+one_list_reply file (variant.OverflowCell cell) (variant.OverflowCell cell') t u h k = ap variant.OverflowCell (one_unfit (plain_problem file) cell cell' h.2 k.2)
+one_list_reply file (variant.OverflowCell cell) (variant.OverflowLine line') t u h k = absurd k
+one_list_reply file (variant.OverflowCell cell) variant.ReadFault t u h k = absurd k
+one_list_reply file (variant.OverflowCell cell) variant.WriteFault t u h k = absurd k
+one_list_reply file (variant.OverflowCell cell) variant.OutOfMemory t u h k = absurd k
+one_list_reply file (variant.OverflowCell cell) variant.TooLong t u h k = absurd k
+one_list_reply file (variant.OverflowCell cell) (variant.TooMany choices') t u h k = absurd (h.1 k.1)
+
+ok_once : {A E : Type 0} (r : Result A E) (x y : A) → r ≡ Ok x → r ≡ Ok y → x ≡ y
+ok_once (Ok z) x y e f = cc
+ok_once (Err z) x y e f = absurd cc
+
+err_once : {A E : Type 0} (r : Result A E) (x y : E) → r ≡ Err x → r ≡ Err y → x ≡ y
+err_once (Ok z) x y e f = absurd cc
+err_once (Err z) x y e f = cc
+
+not_both : {A E : Type 0} (r : Result A E) (x : A) (y : E) → r ≡ Ok x → r ≡ Err y → ⊥
+not_both (Ok z) x y e f = cc
+not_both (Err z) x y e f = cc
+
+one_plain_reply : (bytes : List ℕ) (o q : Outcome) (t u : List ℕ) → IsPlainReply bytes o t → IsPlainReply bytes q u → o ≡ q
+one_plain_reply bytes o q t u (inl h) (inl k) = one_list_reply h.0 o q t u h.2 (subst (λ f. IsListReply f q u) (ok_once (problem_of bytes) k.0 h.0 k.1 h.1) k.2)
+one_plain_reply bytes o q t u (inl h) (inr k) = absurd (not_both (problem_of bytes) h.0 k.0 h.1 k.1)
+one_plain_reply bytes o q t u (inr h) (inl k) = absurd (not_both (problem_of bytes) k.0 h.0 k.1 h.1)
+one_plain_reply bytes o q t u (inr h) (inr k) =
+    h.2.0 ∙ ap (λ (f : FormatFault). variant.Format f.line f.kind) (err_once (problem_of bytes) h.0 k.0 h.1 k.1) ∙ sym k.2.0
+
+one_reply : (command : Command) (bytes : List ℕ) (o q : Outcome) (t u : List ℕ) → IsReply command bytes o t → IsReply command bytes q u → o ≡ q
+one_reply verb.Plain bytes o q t u h k = one_plain_reply bytes o q t u h k
+
+one_answer : (command : Command) (bytes : List ℕ) (o q : Outcome) (t u : List ℕ) → IsAnswer command bytes o t → IsAnswer command bytes q u → o ≡ q
+one_answer command bytes o q t u (inl h) (inl k) = h.1 ∙ sym k.1
+one_answer command bytes o q t u (inl h) (inr k) = absurd (let a = h.0 in let b = k.0 in omega (arith, a, b))
+one_answer command bytes o q t u (inr h) (inl k) = absurd (let a = h.0 in let b = k.0 in omega (arith, a, b))
+one_answer command bytes o q t u (inr h) (inr k) = one_reply command bytes o q t u h.1 k.1
+
+one_meaning : (words : List (List ℕ)) (c d : Command) → Means words c → Means words d → c ≡ d
+one_meaning words verb.Plain verb.Plain h k = refl
+
+-- the words and known bytes call for one outcome
+pub one_called_for : (words : List (List ℕ)) (bytes : List ℕ) (o q : Outcome) (t u : List ℕ) → IsCalledFor words (Some bytes) o t → IsCalledFor words (Some bytes) q u → o ≡ q
+one_called_for words bytes o q t u (inl h) (inl k) = h.1 ∙ sym k.1
+one_called_for words bytes o q t u (inl h) (inr k) = absurd (h.0 (k.0, k.2))
+one_called_for words bytes o q t u (inr h) (inl k) = absurd (k.0 (h.0, h.2))
+one_called_for words bytes o q t u (inr h) (inr k) =
+    one_answer h.0 h.1 o q t u h.4
+    (subst (λ b. IsAnswer h.0 b q u) (sym k.3 ∙ h.3) (subst (λ c. IsAnswer c k.1 q u) (one_meaning words k.0 h.0 k.2 h.2) k.4))
+
+not_free : (o : Outcome) → (status_of o ≡ 6 → ⊥) → (status_of o ≡ 7 → ⊥) → (status_of o ≡ 8 → ⊥) → ¬ (IsFree o)
+not_free o a b c f = elim f [ inl e ↦ a (ap status_of e) | inr g ↦ elim g [ inl e ↦ b (ap status_of e) | inr e ↦ c (ap status_of e) ] ]
+
+-- an outcome is free or it isn't
+free_or : (o : Outcome) → IsFree o ⊎ ¬ (IsFree o)
+free_or variant.ReadFault = inl (inl refl)
+free_or variant.WriteFault = inl (inr (inl refl))
+free_or variant.OutOfMemory = inl (inr (inr refl))
+free_or variant.Ok = inr (not_free variant.Ok (λ e. omega (arith, e)) (λ e. omega (arith, e)) (λ e. omega (arith, e)))
+free_or (variant.No line reason) = inr (not_free (variant.No line reason) (λ e. omega (arith, e)) (λ e. omega (arith, e)) (λ e. omega (arith, e)))
+free_or variant.Usage = inr (not_free variant.Usage (λ e. omega (arith, e)) (λ e. omega (arith, e)) (λ e. omega (arith, e)))
+free_or (variant.Format line kind) = inr (not_free (variant.Format line kind) (λ e. omega (arith, e)) (λ e. omega (arith, e)) (λ e. omega (arith, e)))
+free_or (variant.OverflowCell cell) = inr (not_free (variant.OverflowCell cell) (λ e. omega (arith, e)) (λ e. omega (arith, e)) (λ e. omega (arith, e)))
+free_or (variant.OverflowLine line) = inr (not_free (variant.OverflowLine line) (λ e. omega (arith, e)) (λ e. omega (arith, e)) (λ e. omega (arith, e)))
+free_or variant.TooLong = inr (not_free variant.TooLong (λ e. omega (arith, e)) (λ e. omega (arith, e)) (λ e. omega (arith, e)))
+free_or (variant.TooMany choices) = inr (not_free (variant.TooMany choices) (λ e. omega (arith, e)) (λ e. omega (arith, e)) (λ e. omega (arith, e)))
+
+-- what is called for comes, unless a free answer does
+pub comes : (words : List (List ℕ)) (bytes : List ℕ) (o result : Outcome) (t : List ℕ) → IsCalledFor words (Some bytes) o t
+    → (¬ (IsFree result) → (u : List ℕ) × IsCalledFor words (Some bytes) result u) → (result ≡ o) ⊎ IsFree result
+comes words bytes o result t h f = elim (free_or result) [
+  | inl free ↦ inr free
+  | inr other ↦ let k = f other in inl (one_called_for words bytes result o k.0 t k.1 h)
+]
+
+list_ok : (file : File) (o : Outcome) (t : List ℕ) → IsListReply file o t → ¬ (HasTooMany (plain_problem file)) → AllFit (plain_problem file) → o ≡ variant.Ok
+list_ok file variant.Ok t h many fit = refl
+list_ok file (variant.TooMany choices) t h many fit = absurd (many h.1)
+list_ok file (variant.OverflowCell cell) t h many fit = absurd (h.2.1 (fit cell h.2.0))
+list_ok file (variant.No line reason) t h many fit = absurd h
+list_ok file variant.Usage t h many fit = absurd h
+list_ok file (variant.Format line kind) t h many fit = absurd h
+list_ok file (variant.OverflowLine line) t h many fit = absurd h
+list_ok file variant.ReadFault t h many fit = absurd h
+list_ok file variant.WriteFault t h many fit = absurd h
+list_ok file variant.OutOfMemory t h many fit = absurd h
+list_ok file variant.TooLong t h many fit = absurd h
+
+plain_ok : (bytes : List ℕ) (file : File) (o : Outcome) (t : List ℕ) → problem_of bytes ≡ Ok file → ¬ (HasTooMany (plain_problem file)) → AllFit (plain_problem file) → IsPlainReply bytes o t → o ≡ variant.Ok
+plain_ok bytes file o t e many fit (inl h) = list_ok file o t (subst (λ f. IsListReply f o t) (ok_once (problem_of bytes) h.0 file h.1 e) h.2) many fit
+plain_ok bytes file o t e many fit (inr h) = absurd (not_both (problem_of bytes) file h.0 e h.1)
+
+called_ok : (words : List (List ℕ)) (bytes : List ℕ) (file : File) (o : Outcome) (t : List ℕ) → length bytes ≤ limit → Means words verb.Plain → problem_of bytes ≡ Ok file
+    → ¬ (HasTooMany (plain_problem file)) → AllFit (plain_problem file) → IsCalledFor words (Some bytes) o t → o ≡ variant.Ok
+called_ok words bytes file o t short means e many fit (inl h) = absurd (h.0 (verb.Plain, means))
+called_ok words bytes file o t short means e many fit (inr h) =
+    answered (subst (λ c. IsAnswer c bytes o t) (one_meaning words h.0 verb.Plain h.2 means) (subst (λ b. IsAnswer h.0 b o t) (sym h.3) h.4))
+  where
+    answered : IsAnswer verb.Plain bytes o t → o ≡ variant.Ok
+    answered (inl l) = absurd (let a = l.0 in omega (arith, a, short))
+    answered (inr r) = plain_ok bytes file o t e many fit r.1
+
+-- a file of few choices whose workings fit is listed, unless a free answer comes
+pub lists : (words : List (List ℕ)) (bytes : List ℕ) (file : File) (result : Outcome) → length bytes ≤ limit → Means words verb.Plain → problem_of bytes ≡ Ok file
+    → ¬ (HasTooMany (plain_problem file)) → AllFit (plain_problem file)
+    → (¬ (IsFree result) → (u : List ℕ) × IsCalledFor words (Some bytes) result u) → (result ≡ variant.Ok) ⊎ IsFree result
+lists words bytes file result short means e many fit f = elim (free_or result) [
+  | inl free ↦ inr free
+  | inr other ↦ let k = f other in inl (called_ok words bytes file result k.0 short means e many fit k.1)
+]
+
+plain_listing : (bytes t : List ℕ) → IsPlainReply bytes variant.Ok t → (file : File) × (problem_of bytes ≡ Ok file) × IsListingOf file t
+plain_listing bytes t (inl h) = (h.0, h.1, h.2.2)
+plain_listing bytes t (inr h) = absurd (let e = ap status_of h.2.0 in omega (arith, e))
+
+-- Ok of `plain` is the listing of the file
+listed : (words : List (List ℕ)) (bytes t : List ℕ) → Means words verb.Plain → IsCalledFor words (Some bytes) variant.Ok t
+    → (file : File) × (problem_of bytes ≡ Ok file) × IsListingOf file t
+listed words bytes t means (inl h) = absurd (let e = ap status_of h.1 in omega (arith, e))
+listed words bytes t means (inr h) =
+    answered (subst (λ c. IsAnswer c bytes variant.Ok t) (one_meaning words h.0 verb.Plain h.2 means) (subst (λ b. IsAnswer h.0 b variant.Ok t) (sym h.3) h.4))
+  where
+    answered : IsAnswer verb.Plain bytes variant.Ok t → (file : File) × (problem_of bytes ≡ Ok file) × IsListingOf file t
+    answered (inl l) = absurd (let e = ap status_of l.1 in omega (arith, e))
+    answered (inr r) = plain_listing bytes t r.1
+
+-- Ok isn't free
+pub ok_other : (result : Outcome) → result ≡ variant.Ok → ¬ (IsFree result)
+ok_other result e = not_free result (λ f. let g = ap status_of e in omega (arith, f, g)) (λ f. let g = ap status_of e in omega (arith, f, g)) (λ f. let g = ap status_of e in omega (arith, f, g))
+
+-- what is called for on the bytes that are left
+pub known : (words : List (List ℕ)) (left : Option (List ℕ)) (bytes : List ℕ) (o : Outcome) (t : List ℕ) → left ≡ Some bytes → IsCalledFor words left o t → IsCalledFor words (Some bytes) o t
+known words left bytes o t e h = subst (λ l. IsCalledFor words l o t) e h
+
+-- what `plain` that ended Ok has written
+pub ended_listed : (words : List (List ℕ)) (left : Option (List ℕ)) (bytes : List ℕ) (o : Outcome) (t : List ℕ) → left ≡ Some bytes → Means words verb.Plain → o ≡ variant.Ok → IsCalledFor words left o t
+    → (file : File) × (problem_of bytes ≡ Ok file) × IsListingOf file t
+ended_listed words left bytes o t e means ok h = listed words bytes t means (subst (λ q. IsCalledFor words (Some bytes) q t) ok (known words left bytes o t e h))

@@ -1,0 +1,45 @@
+-- What a command answers on the bytes of its input, and what it writes for that.
+use Rattle.std.specs.Prelude.{◌≡◌, ◌⊎◌, ℕ, List, Ok, Err}
+use Rattle.cayley.specs.Files.{File, plain_problem}
+use Rattle.support_text.specs.declared.fault.FormatFault.{FormatFault}
+use Rattle.support_text.specs.ProblemText.{problem_of}
+use Rattle.listing_text.specs.Listings.{IsListingOf}
+use Rattle.plain_lister.specs.Choices.{HasTooMany, IsExcess}
+use Rattle.plain_lister.specs.Lists.{AllFit, IsFirstUnfit}
+use Rattle.mixedcells_cli.specs.declared.words.Command.{Command}
+use Rattle.mixedcells_cli.specs.declared.words.Command.TheVariants as verb
+use Rattle.mixedcells_cli.specs.declared.outcome.Outcome.{Outcome}
+use Rattle.mixedcells_cli.specs.declared.outcome.Outcome.TheVariants as variant
+use Rattle.mixedcells_cli.specs.Outcomes.{format_line, too_many_line, overflow_cell}
+
+-- the longest input that is read
+abbrev pub limit : ℕ
+limit = 16777216
+
+-- what is said of a file's points: their listing, too many choices, or the least choice whose working doesn't fit
+abbrev pub IsListReply : File → Outcome → List ℕ → Type 0
+IsListReply file variant.Ok text = ¬ (HasTooMany (plain_problem file)) × AllFit (plain_problem file) × IsListingOf file text
+IsListReply file (variant.TooMany choices) text = (text ≡ too_many_line choices) × HasTooMany (plain_problem file) × IsExcess (plain_problem file) choices
+IsListReply file (variant.OverflowCell cell) text = (text ≡ overflow_cell cell) × ¬ (HasTooMany (plain_problem file)) × IsFirstUnfit (plain_problem file) cell
+IsListReply file (variant.No line reason) text = ⊥
+IsListReply file variant.Usage text = ⊥
+IsListReply file (variant.Format line kind) text = ⊥
+IsListReply file (variant.OverflowLine line) text = ⊥
+IsListReply file variant.ReadFault text = ⊥
+IsListReply file variant.WriteFault text = ⊥
+IsListReply file variant.OutOfMemory text = ⊥
+IsListReply file variant.TooLong text = ⊥
+
+-- the first fault of the input's format is told
+abbrev pub TellsFault : FormatFault → Outcome → List ℕ → Type 0
+TellsFault fault outcome text = (outcome ≡ variant.Format fault.line fault.kind) × (text ≡ format_line fault.line fault.kind)
+
+-- what `plain` replies: what is said of the file that the bytes mean, or their first fault
+abbrev pub IsPlainReply : List ℕ → Outcome → List ℕ → Type 0
+IsPlainReply bytes outcome text =
+    ((file : File) × (problem_of bytes ≡ Ok file) × IsListReply file outcome text)
+    ⊎ ((fault : FormatFault) × (problem_of bytes ≡ Err fault) × TellsFault fault outcome text)
+
+-- what a command replies on the bytes of its input
+abbrev pub IsReply : Command → List ℕ → Outcome → List ℕ → Type 0
+IsReply verb.Plain bytes outcome text = IsPlainReply bytes outcome text

@@ -1,0 +1,42 @@
+-- How a run ends, and what stands in the source and the sink then.
+use Rattle.std.specs.Prelude.{◌≡◌, ◌⊎◌, ◌<◌, ◌≤◌, ℕ, List, [], length, take, Option, Some, None}
+use Rattle.std.specs.Io.KnownBytes.{Appends}
+use Rattle.edge_io.specs.Faults.{Rose}
+use Rattle.mixedcells_cli.specs.declared.words.Command.{Command}
+use Rattle.mixedcells_cli.specs.declared.outcome.Outcome.{Outcome}
+use Rattle.mixedcells_cli.specs.declared.outcome.Outcome.TheVariants as variant
+use Rattle.mixedcells_cli.specs.Words.{Means, HasMeaning}
+use Rattle.mixedcells_cli.specs.Outcomes.{line_of}
+use Rattle.mixedcells_cli.specs.Answers.{limit, IsReply}
+
+-- what a command answers on its whole input, and what it writes for that: the input is too long, or the command replies
+abbrev pub IsAnswer : Command → List ℕ → Outcome → List ℕ → Type 0
+IsAnswer command bytes outcome text =
+    ((limit < length bytes) × (outcome ≡ variant.TooLong) × (text ≡ line_of variant.TooLong))
+    ⊎ ((length bytes ≤ limit) × IsReply command bytes outcome text)
+
+-- the bytes are those that a source has left, where it tells them
+abbrev pub IsInput : Option (List ℕ) → List ℕ → Type 0
+IsInput None bytes = Unit {0}
+IsInput (Some left) bytes = left ≡ bytes
+
+-- what the words and the input call for: usage, or the answer of a command
+abbrev pub IsCalledFor : List (List ℕ) → Option (List ℕ) → Outcome → List ℕ → Type 0
+IsCalledFor words left outcome text =
+    (¬ (HasMeaning words) × (outcome ≡ variant.Usage) × (text ≡ line_of variant.Usage))
+    ⊎ ((command : Command) × (bytes : List ℕ) × Means words command × IsInput left bytes × IsAnswer command bytes outcome text)
+
+-- a part of what was called for was written, and the sink's faults rose
+abbrev pub IsCutOff : (Outcome → List ℕ → Type 0) → Option (List ℕ) → Option (List ℕ) → ℕ → ℕ → Type 0
+IsCutOff IsRight old new before now = Rose before now
+    × ((outcome : Outcome) × (text : List ℕ) × IsRight outcome text × ((n : ℕ) × (n ≤ length text) × Appends old new (take n text)))
+
+-- the answers that tell of the ends or of the memory, and so may come in place of any other
+abbrev pub IsFree : Outcome → Type 0
+IsFree outcome = (outcome ≡ variant.ReadFault) ⊎ (outcome ≡ variant.WriteFault) ⊎ (outcome ≡ variant.OutOfMemory)
+
+-- the outcome came and its text was written, or the sink failed and a part of the text was
+abbrev pub Finishes : Option (List ℕ) → Option (List ℕ) → ℕ → ℕ → List ℕ → Outcome → Outcome → Type 0
+Finishes old new before now text outcome result =
+    ((result ≡ outcome) × Appends old new text)
+    ⊎ ((result ≡ variant.WriteFault) × Rose before now × ((n : ℕ) × (n ≤ length text) × Appends old new (take n text)))

@@ -1,0 +1,52 @@
+ghost use Rattle.std.specs.Prelude.{◌≡◌};
+ghost use Rattle.mixedcells_cli.specs.Outcomes.{status_of};
+
+use cayley::Cell;
+
+/// How a run ended.
+#[derive(Drop)]
+pub enum Outcome {
+    /// The command did what it is for.
+    Ok,
+    /// `check`: this line of the listing is the first that doesn't pass, for this reason.
+    No { line: u64, reason: u8 },
+    /// The words mean no command; nothing was read.
+    Usage,
+    /// This line of the input is the first faulty one, and what is wrong with it.
+    Format { line: u64, kind: u8 },
+    /// `plain`: the working of this choice of pairs, the least such, has a number that doesn't fit.
+    OverflowCell { cell: Cell },
+    /// `check`: judging this line needs a number that doesn't fit.
+    OverflowLine { line: u64 },
+    /// The source failed; nothing was written.
+    ReadFault,
+    /// The sink failed; a prefix of what was to be written was.
+    WriteFault,
+    /// There was no memory; nothing was written.
+    OutOfMemory,
+    /// The input is longer than 16,777,216 bytes.
+    TooLong,
+    /// `plain`: there are more than 1,000,000 choices of pairs, as many as this in the first supports that exceed it.
+    TooMany { choices: u64 },
+}
+
+impl Outcome {
+    /// The exit status of the program.
+    pub fn status(&self) -> u8
+        ensures { result ≡ status_of self.now }
+    {
+        match self {
+            Outcome::Ok => 0,
+            Outcome::No { .. } => 1,
+            Outcome::Usage => 2,
+            Outcome::Format { .. } => 3,
+            Outcome::OverflowCell { .. } => 5,
+            Outcome::OverflowLine { .. } => 5,
+            Outcome::ReadFault => 6,
+            Outcome::WriteFault => 7,
+            Outcome::OutOfMemory => 8,
+            Outcome::TooLong => 9,
+            Outcome::TooMany { .. } => 10,
+        }
+    }
+}

@@ -1,0 +1,203 @@
+use crate::top::run_alone;
+use edge_io::{MemorySink, MemorySource, SteadySource};
+use std::alloc::Global;
+use std::test::Fail;
+
+const THREE_POINTS: &[u8] = b"mixedcells 1\ndim 1\nsupport 3\n0 : 0\n1 : -2\n3 : 0\nend\n";
+
+const SEGMENT: &[u8] = b"mixedcells 1\ndim 1\nsupport 2\n0 : 0\n2 : 1\nend\n";
+
+const SQUARES: &[u8] =
+    b"mixedcells 1\ndim 2\nsupport 4\n0 0 : 3\n1 0 : 10\n0 1 : 20\n1 1 : 90\nsupport 4\n0 0 : 5\n1 0 : 40\n0 1 : 9\n1 1 : 1\nend\n";
+
+// The word `plain`.
+fn plain(alloc: Global) -> Result<Vec<String>, Fail> {
+    let mut words = Vec::new(alloc);
+    words.push(String::from_str(alloc, "plain")?)?;
+    Ok(words)
+}
+
+// The status of a run of `plain` on bytes, and what it wrote.
+fn run(alloc: Global, input: &[u8]) -> Result<(u8, Vec<u8>), Fail> {
+    let words = plain(alloc)?;
+    let mut source = SteadySource::new(input.to_vec(alloc)?);
+    let Ok(mut sink) = MemorySink::new(alloc, 4096, 1000, Vec::new(alloc)) else {
+        return Err(Fail::from("out of memory"));
+    };
+    let outcome = run_alone(alloc, &words, &mut source, &mut sink);
+    let written = sink.bytes().to_vec(alloc)?;
+    Ok((outcome.status(), written))
+}
+
+#[test]
+fn listings_of_small_files(rt: HostRuntime) -> Result<(), Fail> {
+    let rows: [(&[u8], &[u8]); 8] = [
+        (
+            THREE_POINTS,
+            b"cells 2\ncell 1 2 : 2 / 1\ncell 2 3 : -1 / 1\nend\n",
+        ),
+        (
+            b"mixedcells 1\ndim 1\nsupport 3\n0 : 0\n1 : 5\n3 : 0\nend\n",
+            b"cells 1\ncell 1 3 : 0 / 1\nend\n",
+        ),
+        (SEGMENT, b"cells 1\ncell 1 2 : -1 / 2\nend\n"),
+        (
+            b"mixedcells 1\ndim 1\nsupport 1\n5 : 7\nend\n",
+            b"cells 0\nend\n",
+        ),
+        (
+            b"mixedcells 1\ndim 1\nsupport 2\n0 : 7\n1 : 7\nend\n",
+            b"cells 1\ncell 1 2 : 0 / 1\nend\n",
+        ),
+        (
+            b"mixedcells 1\ndim 1\nsupport 3\n0 : 0\n1 : 0\n2 : 0\nend\n",
+            b"cells 0\nend\n",
+        ),
+        (
+            SQUARES,
+            b"cells 2\ncell 1 2 1 4 : -7 11 / 1\ncell 1 3 3 4 : 8 -17 / 1\nend\n",
+        ),
+        (
+            b"mixedcells 1\ndim 1\nsupport 2\n0 : 0\n1000000 : 1\nend\n",
+            b"cells 1\ncell 1 2 : -1 / 1000000\nend\n",
+        ),
+    ];
+    for (file, cells) in rows {
+        let (status, written) = run(rt.alloc(), file)?;
+        let mut want = file.to_vec(rt.alloc())?;
+        want.extend_from_slice(cells)?;
+        assert_eq!(rt; status, 0);
+        assert_eq!(rt; written.as_slice(), want.as_slice());
+    }
+    Ok(())
+}
+
+#[test]
+fn odd_spelling_is_written_plainly(rt: HostRuntime) -> Result<(), Fail> {
+    let odd =
+        b"mixedcells 1\r\n# note\r\n\r\ndim\t1\r\nsupport 2\r\n0:+0\r\n  2 : 01 # last\r\nend";
+    let (status, written) = run(rt.alloc(), odd)?;
+    let (_, want) = run(rt.alloc(), SEGMENT)?;
+    assert_eq!(rt; status, 0);
+    assert_eq!(rt; written.as_slice(), want.as_slice());
+    Ok(())
+}
+
+#[test]
+fn refusals_by_their_lines(rt: HostRuntime) -> Result<(), Fail> {
+    let rows: [(&[u8], u8, &[u8]); 8] = [
+        (
+            b"mixedcells 1\ndim 1\nsupport 3\n",
+            3,
+            b"format: line 4 kind 8\n",
+        ),
+        (
+            b"mixedcells 1\ndim 1\nsupport 2\n0 : 0\n0 : 1\nend\n",
+            3,
+            b"format: line 5 kind 6\n",
+        ),
+        (
+            b"mixedcells 1\ndim 1\nsupport 2\n0 : 0\n2 : 1\nend\nmore\n",
+            3,
+            b"format: line 7 kind 9\n",
+        ),
+        (b"", 3, b"format: line 1 kind 8\n"),
+        (
+            b"mixedcells 1\ndim 1\nsupport 2\n0 : 0\n1000001 : 1\nend\n",
+            3,
+            b"format: line 5 kind 5\n",
+        ),
+        (
+            b"mixedcells 1\ndim 17\nsupport 2\n0 : 0\n2 : 1\nend\n",
+            3,
+            b"format: line 2 kind 2\n",
+        ),
+        (
+            b"mixedcells 1\ndim 2\nsupport 1\n0 0 : 0\nsupport 1\n0 0 : 0\nstart 0\nstart 1\nend\n",
+            3,
+            b"format: line 7 kind 7\n",
+        ),
+        (
+            b"mixedcells 2\ndim 1\nsupport 1\n0 : 0\nend\n",
+            3,
+            b"format: line 1 kind 1\n",
+        ),
+    ];
+    for (input, want, line) in rows {
+        let (status, written) = run(rt.alloc(), input)?;
+        assert_eq!(rt; status, want);
+        assert_eq!(rt; written.as_slice(), line);
+    }
+    Ok(())
+}
+
+// Seven supports of the origin and one long edge each, along the axes, whose lengths have no common divisors.
+const LONG_EDGES: &[u8] =
+    b"mixedcells 1\ndim 7\nsupport 2\n0 0 0 0 0 0 0 : 0\n1000000 0 0 0 0 0 0 : 0\nsupport 2\n0 0 0 0 0 0 0 : 0\n0 999999 0 0 0 0 0 : 0\nsupport 2\n0 0 0 0 0 0 0 : 0\n0 0 999997 0 0 0 0 : 0\nsupport 2\n0 0 0 0 0 0 0 : 0\n0 0 0 999991 0 0 0 : 0\nsupport 2\n0 0 0 0 0 0 0 : 0\n0 0 0 0 999989 0 0 : 0\nsupport 2\n0 0 0 0 0 0 0 : 0\n0 0 0 0 0 999983 0 : 0\nsupport 2\n0 0 0 0 0 0 0 : 0\n0 0 0 0 0 0 999979 : 0\nend\n";
+
+#[test]
+fn seven_long_edges_overflow(rt: HostRuntime) -> Result<(), Fail> {
+    let (status, written) = run(rt.alloc(), LONG_EDGES)?;
+    assert_eq!(rt; status, 5);
+    assert_eq!(rt;
+        written.as_slice(),
+        b"overflow: cell 1 2 1 2 1 2 1 2 1 2 1 2 1 2\n".as_slice()
+    );
+    Ok(())
+}
+
+#[test]
+fn words_without_a_meaning_read_nothing(rt: HostRuntime) -> Result<(), Fail> {
+    let words = Vec::new(rt.alloc());
+    let mut source = SteadySource::new(SEGMENT.to_vec(rt.alloc())?);
+    let Ok(mut sink) = MemorySink::new(rt.alloc(), 100, 100, Vec::new(rt.alloc())) else {
+        return Err(Fail::from("out of memory"));
+    };
+    let outcome = run_alone(rt.alloc(), &words, &mut source, &mut sink);
+    assert_eq!(rt; outcome.status(), 2);
+    assert_eq!(rt; sink.bytes(), b"usage\n".as_slice());
+    Ok(())
+}
+
+#[test]
+fn a_failed_read_writes_nothing(rt: HostRuntime) -> Result<(), Fail> {
+    let words = plain(rt.alloc())?;
+    let failing = [1].to_vec(rt.alloc())?;
+    let mut source = MemorySource::new(SEGMENT.to_vec(rt.alloc())?, 100, failing);
+    let Ok(mut sink) = MemorySink::new(rt.alloc(), 100, 100, Vec::new(rt.alloc())) else {
+        return Err(Fail::from("out of memory"));
+    };
+    let outcome = run_alone(rt.alloc(), &words, &mut source, &mut sink);
+    assert_eq!(rt; outcome.status(), 6);
+    assert_eq!(rt; sink.bytes(), b"".as_slice());
+    Ok(())
+}
+
+#[test]
+fn a_failed_write_leaves_a_prefix(rt: HostRuntime) -> Result<(), Fail> {
+    let words = plain(rt.alloc())?;
+    let mut source = SteadySource::new(SEGMENT.to_vec(rt.alloc())?);
+    let failing = [3].to_vec(rt.alloc())?;
+    let Ok(mut sink) = MemorySink::new(rt.alloc(), 1000, 4, failing) else {
+        return Err(Fail::from("out of memory"));
+    };
+    let outcome = run_alone(rt.alloc(), &words, &mut source, &mut sink);
+    assert_eq!(rt; outcome.status(), 7);
+    assert_eq!(rt; sink.bytes(), b"mixedcel".as_slice());
+    Ok(())
+}
+
+#[test]
+fn input_past_the_limit_is_too_long(rt: HostRuntime) -> Result<(), Fail> {
+    let rows: [(usize, u8, &[u8]); 2] = [
+        (16_777_217, 9, b"too long\n"),
+        (16_777_216, 3, b"format: line 2 kind 8\n"),
+    ];
+    for (length, want, line) in rows {
+        let input = vec![in rt.alloc(); b'#'; length]?;
+        let (status, written) = run(rt.alloc(), &input)?;
+        assert_eq!(rt; status, want);
+        assert_eq!(rt; written.as_slice(), line);
+    }
+    Ok(())
+}

@@ -1,0 +1,101 @@
+// The top call.
+ghost use Rattle.std.specs.Prelude.{◌≡◌, ◌≢◌, ◌⊎◌, ◌≤◌, [], List, ℕ, Option, Some, Ok, map, length, take, string_bytes};
+ghost use Rattle.std.specs.Io.KnownBytes.{Appends, IsAtEnd};
+ghost use Rattle.edge_io.specs.Faults.{Rose};
+ghost use Rattle.cayley.specs.Files.{File, plain_problem};
+ghost use Rattle.support_text.specs.ProblemText.{problem_of};
+ghost use Rattle.listing_text.specs.Listings.{IsListingOf};
+ghost use Rattle.plain_lister.specs.Choices.{HasTooMany};
+ghost use Rattle.plain_lister.specs.Lists.{AllFit};
+ghost use Rattle.mixedcells_cli.specs.Words.{Means, HasMeaning};
+ghost use Rattle.mixedcells_cli.specs.Runs.{IsInput, IsAnswer, IsCalledFor, IsCutOff, IsFree, Finishes};
+
+use crate::outcome::Outcome;
+use crate::replies::{Reply, answer};
+use crate::words::{Command, command_of};
+use edge_io::{ReadStop, Sink, Source, read_all, write_all};
+use std::alloc::Global;
+
+/// Runs the command that the words mean on all that `source` has left, and writes its answer to `sink`.
+///
+/// All memory is taken before the first write. A refusal writes its line; after `ReadFault` and `OutOfMemory` nothing was
+/// written, after `WriteFault` a prefix of what was to be written.
+pub fn run_alone<S: Source, K: Sink>(
+    alloc: Global,
+    words: &[String],
+    source: &mut S,
+    sink: &mut K,
+) -> Outcome
+    // What the words and the input call for came, and its text was written, and nothing else.
+    ensures written { ¬ (IsFree result) → (text : List ℕ)
+        × IsCalledFor (map string_bytes words.now) (S.left source.old) result text
+        × Appends (K.held sink.old) (K.held sink.new) text }
+    // A part of the text that was called for was written, and the sink's count of faults rose.
+    ensures cut_off { result ≡ Outcome.WriteFault
+        → IsCutOff (IsCalledFor (map string_bytes words.now) (S.left source.old)) (K.held sink.old) (K.held sink.new) (K.faults sink.old) (K.faults sink.new) }
+    ensures silent { (result ≡ Outcome.ReadFault) ⊎ (result ≡ Outcome.OutOfMemory) → Appends (K.held sink.old) (K.held sink.new) [] }
+    // What is called for comes, unless an end fails or there is no memory.
+    ensures exact { (bytes : List ℕ) (outcome : Outcome) (text : List ℕ) → S.left source.old ≡ Some bytes
+        → IsCalledFor (map string_bytes words.now) (Some bytes) outcome text → (result ≡ outcome) ⊎ IsFree result }
+    // `plain` that ends Ok has written exactly the listing of the file: its mixed cells, each once, in cell order, with their normals.
+    ensures listing { (bytes : List ℕ) → S.left source.old ≡ Some bytes → Means (map string_bytes words.now) Command.Plain → result ≡ Outcome.Ok
+        → (file : File) × (problem_of bytes ≡ Ok file) × ((text : List ℕ) × IsListingOf file text × Appends (K.held sink.old) (K.held sink.new) text) }
+    // A file of few choices whose workings fit is listed.
+    ensures complete { (bytes : List ℕ) (file : File) → S.left source.old ≡ Some bytes → length bytes ≤ 16777216
+        → Means (map string_bytes words.now) Command.Plain → problem_of bytes ≡ Ok file
+        → ¬ (HasTooMany (plain_problem file)) → AllFit (plain_problem file) → (result ≡ Outcome.Ok) ⊎ IsFree result }
+    ensures read_fault { result ≡ Outcome.ReadFault → Rose (S.faults source.old) (S.faults source.new) }
+    // Words without a meaning are usage, and nothing is read for them.
+    ensures usage { ¬ (HasMeaning (map string_bytes words.now)) → (result ≡ Outcome.Usage) ⊎ (result ≡ Outcome.WriteFault) }
+    ensures unread { ¬ (HasMeaning (map string_bytes words.now)) → source.new ≡ source.old }
+    // Every answer but these two has read the input to its end.
+    ensures whole { ¬ (IsFree result) → result ≢ Outcome.Usage → result ≢ Outcome.TooLong → IsAtEnd (S.left source.new) }
+    ensures source_later { S.faults source.old ≤ S.faults source.new }
+    ensures sink_later { K.faults sink.old ≤ K.faults sink.new }
+{
+    match command_of(words) {
+        Some(command) => run_command(alloc, command, source, sink),
+        None => finish(sink, b"usage\n", Outcome::Usage),
+    }
+}
+
+// Runs a command.
+fn run_command<S: Source, K: Sink>(
+    alloc: Global,
+    command: Command,
+    source: &mut S,
+    sink: &mut K,
+) -> Outcome
+    ensures written { ¬ (IsFree result) → (bytes : List ℕ) × (text : List ℕ)
+        × IsInput (S.left source.old) bytes × IsAnswer command bytes result text
+        × Appends (K.held sink.old) (K.held sink.new) text }
+    ensures cut_off { result ≡ Outcome.WriteFault → (bytes : List ℕ) × IsInput (S.left source.old) bytes
+        × IsCutOff (IsAnswer command bytes) (K.held sink.old) (K.held sink.new) (K.faults sink.old) (K.faults sink.new) }
+    ensures silent { (result ≡ Outcome.ReadFault) ⊎ (result ≡ Outcome.OutOfMemory) → Appends (K.held sink.old) (K.held sink.new) [] }
+    ensures read_fault { result ≡ Outcome.ReadFault → Rose (S.faults source.old) (S.faults source.new) }
+    ensures whole { ¬ (IsFree result) → result ≢ Outcome.TooLong → IsAtEnd (S.left source.new) }
+    ensures source_later { S.faults source.old ≤ S.faults source.new }
+    ensures sink_later { K.faults sink.old ≤ K.faults sink.new }
+{
+    let bytes = match read_all(alloc, source) {
+        Ok(bytes) => bytes,
+        Err(ReadStop::TooLong) => return finish(sink, b"too long\n", Outcome::TooLong),
+        Err(ReadStop::Fault) => return Outcome::ReadFault,
+        Err(ReadStop::OutOfMemory) => return Outcome::OutOfMemory,
+    };
+    match answer(alloc, command, &bytes) {
+        Ok(Reply { outcome, text }) => finish(sink, &text, outcome),
+        Err(_) => Outcome::OutOfMemory,
+    }
+}
+
+// Writes the text of an outcome.
+fn finish<K: Sink>(sink: &mut K, text: &[u8], outcome: Outcome) -> Outcome
+    ensures ends { Finishes (K.held sink.old) (K.held sink.new) (K.faults sink.old) (K.faults sink.new) text.now outcome result }
+    ensures later { K.faults sink.old ≤ K.faults sink.new }
+{
+    if write_all(sink, text).is_err() {
+        return Outcome::WriteFault;
+    }
+    outcome
+}
