@@ -66,6 +66,8 @@ pub mod LifeLaws
 pub mod LowestTerms
 pub mod MovingNormals
 pub mod MovingWalls
+pub mod Unperturbed
+pub mod CellRows
 mod WorkedSquares
 mod WorkedPoint
 mod WorkedLevelPoints

@@ -91,3 +91,11 @@ first_points (f ∷ files) (s ∷ supports) = take f s ∷ first_points files su
 -- the problem of the same version that has the file points alone
 abbrev pub file_points : Problem → Problem
 file_points p = record p { supports = ranked_supports p.version p.files (first_points p.files p.supports) }
+
+-- the problem taken as version 1: the same points, their heights without infinitesimals
+abbrev pub unperturbed : Problem → Problem
+unperturbed p = record p { version = version1; supports = map (map (with_rank 0)) p.supports }
+
+-- two problems that differ in version and ranks alone
+abbrev pub HasSamePoints : Problem → Problem → Type 0
+HasSamePoints p q = unperturbed p ≡ unperturbed q

@@ -5,3 +5,4 @@ pub mod Carried
 pub mod Solutions
 pub mod Least
 pub mod Refusals
+pub mod CellRefusals
