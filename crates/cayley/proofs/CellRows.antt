@@ -70,8 +70,8 @@ module _ (n : ℕ) where
   pub pairs_orthogonal : (i : ℕ) (supports : List (List Point)) (cell : Cell) (v more : List ℤ) → length v ≡ n → length more ≤ 2 → HaveLength n supports → EachPair supports cell InRange
       → IsOrthogonal (edge_rows_from n i supports cell) (v ++ more)
       → EachPair supports cell (λ s a b.
-          dot (sub (point_at s b).coordinates (point_at s a).coordinates) v
-          +ℤ dot (((point_at s b).base -ℤ (point_at s a).base) ∷ ((point_at s b).speed -ℤ (point_at s a).speed) ∷ []) more ≡ pos 0)
+      dot (sub (point_at s b).coordinates (point_at s a).coordinates) v
+      +ℤ dot (((point_at s b).base -ℤ (point_at s a).base) ∷ ((point_at s b).speed -ℤ (point_at s a).speed) ∷ []) more ≡ pos 0)
   pairs_orthogonal i [] [] v more l k well of e = tt
   pairs_orthogonal i [] (x ∷ cell) v more l k well of e = absurd of
   pairs_orthogonal i (s ∷ supports) [] v more l k well of e = absurd of
@@ -79,8 +79,8 @@ module _ (n : ℕ) where
       let a = point_at s x.0 in
       let b = point_at s x.1 in (
         ap (λ z. dot (sub b.coordinates a.coordinates) v +ℤ z) (sym (two (b.base -ℤ a.base) (b.speed -ℤ a.speed) (unit_row n i) more k))
-        ∙ sym (dot-append (sub b.coordinates a.coordinates) _ v more (l ∙ sym (edge_long s x.0 x.1 of.0 well.0)))
-        ∙ e.0,
+            ∙ sym (dot-append (sub b.coordinates a.coordinates) _ v more (l ∙ sym (edge_long s x.0 x.1 of.0 well.0)))
+            ∙ e.0,
         pairs_orthogonal (suc i) supports cell v more l k well.1 of.1 e.1,
       )
     where

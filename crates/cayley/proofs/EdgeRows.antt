@@ -1,13 +1,13 @@
 -- the rows of a cell, one number and one row at a time
-use Rattle.std.proofs.Common.{◌≡◌, ℕ, zero, suc, ◌+◌, ◌-◌, ◌*◌, ◌^◌, ◌<◌, ◌≤◌, ℤ, pos, ◌+ℤ◌, ◌-ℤ◌, ◌*ℤ◌, neg_ℤ, unsigned_abs, List, [], ◌∷◌, ◌++◌, length, map, take, set, arith, refl, ap, ap₂, sym, ◌∙◌, subst, append_assoc, length-append, length-set, FitsSigned, replicate}
+use Rattle.std.proofs.Common.{◌≡◌, ℕ, zero, suc, ◌+◌, ◌-◌, ◌*◌, ◌<◌, ◌≤◌, ℤ, pos, ◌-ℤ◌, neg_ℤ, unsigned_abs, List, [], ◌∷◌, ◌++◌, length, take, arith, refl, ap, ap₂, sym, ◌∙◌, append_assoc, length-append, length-set, FitsSigned, replicate}
 use Rattle.std.specs.Prelude.{slice_index_or, slice_set}
 use Rattle.std.specs.Int.{w128}
-use Rattle.std.proofs.lemmas.Int.{ints, fits_signed_from_abs}
-use Rattle.std.proofs.lemmas.List.{take_all, take_more, set-append_right, length-map, length-replicate}
+use Rattle.std.proofs.lemmas.Int.{ints}
+use Rattle.std.proofs.lemmas.List.{take_all, take_more, set-append_right, length-replicate}
 use Rattle.wide_int.specs.Whole.{FitsWhole}
 use Rattle.int_vectors.specs.Fits.{AllFit}
 use Rattle.int_vectors.proofs.Differences.{sub-more}
-use Rattle.int_vectors.specs.Vectors.{Each, add, scale, sub}
+use Rattle.int_vectors.specs.Vectors.{Each, scale, sub}
 use Rattle.cayley.specs.Cells.{EachPair}
 use Rattle.cayley.specs.Problems.{Point, origin, point_at}
 use Rattle.cayley.specs.Rows.{edge_row, edge_rows_from, unit_row}

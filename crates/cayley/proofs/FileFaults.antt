@@ -1,6 +1,6 @@
 -- the faults of one support of a file, point by point
-use Rattle.std.proofs.Common.{◌≡◌, ℕ, zero, suc, ◌+◌, ◌-◌, ◌<◌, ◌≤◌, ◌↔◌, List, [], ◌∷◌, length, map, arith, refl, ap, sym, ◌∙◌, subst, ◌⊎◌, inl, inr}
-use Rattle.std.specs.Prelude.{ℤ, pos, slice_index_or, IsTrue, MatchOption}
+use Rattle.std.proofs.Common.{◌≡◌, ℕ, ◌+◌, ◌-◌, ◌<◌, ◌≤◌, List, [], length, map, arith, ap, sym, ◌∙◌, subst, inl, inr}
+use Rattle.std.specs.Prelude.{ℤ, pos, slice_index_or, MatchOption}
 use Rattle.std.proofs.lemmas.Bool.{cases_lt}
 use Rattle.std.proofs.lemmas.List.{length-map}
 use Rattle.cayley.specs.declared.faults.ShapeFault.{ShapeFault}
@@ -8,7 +8,7 @@ use Rattle.cayley.specs.declared.faults.ShapeFault.TheVariants.{BadShape, Repeat
 use Rattle.cayley.specs.Files.{FilePoint, File}
 use Rattle.cayley.specs.Problems.{version1}
 use Rattle.int_vectors.specs.Vectors.{Each}
-use Rattle.cayley.specs.Shapes.{IsPosition, IsRepeat, IsOutside, IsFaulty, IsFirst, IsFirstStart, IsFileFault, IsPlaceFault, IsSupportFault, file_point_at, file_support}
+use Rattle.cayley.specs.Shapes.{IsRepeat, IsOutside, IsFaulty, IsFirst, IsFirstStart, IsFileFault, IsPlaceFault, IsSupportFault, file_point_at, file_support}
 use Rattle.cayley.specs.Valid.{IsStart, IsWithinFile, AreDistinct, HasFileShape, IsValidFile}
 use Rattle.cayley.proofs.Lists.{map_at, map_map, each_all, same_read, read_past}
 use Rattle.cayley.proofs.Stable.{within_stable}

@@ -1,5 +1,5 @@
 -- a property of each support with its pair, by places
-use Rattle.std.proofs.Common.{◌≡◌, ℕ, zero, suc, ◌<◌, ◌≤◌, List, [], ◌∷◌, length, map, arith, refl, ap}
+use Rattle.std.proofs.Common.{◌≡◌, ℕ, zero, suc, ◌<◌, List, [], ◌∷◌, length, map, arith, refl, ap}
 use Rattle.std.specs.Prelude.{slice_index_or}
 use Rattle.cayley.specs.Problems.{Point}
 use Rattle.cayley.specs.Cells.{EachPair}

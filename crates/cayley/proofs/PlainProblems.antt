@@ -1,5 +1,5 @@
 -- the problem of a file's points alone keeps what problems keep
-use Rattle.std.proofs.Common.{◌≡◌, ℕ, zero, suc, ◌+◌, ◌<◌, ◌≤◌, List, [], ◌∷◌, length, map, take, drop, arith, refl, ap, sym, ◌∙◌, subst, inl}
+use Rattle.std.proofs.Common.{◌≡◌, ℕ, suc, ◌≤◌, List, [], ◌∷◌, length, map, take, drop, arith, refl, ap, sym, ◌∙◌, subst, inl}
 use Rattle.std.proofs.lemmas.List.{length-map, take_all, drop_all}
 use Rattle.std.proofs.Math.IntN.{pos}
 use Rattle.int_vectors.specs.Vectors.{Each}
@@ -7,7 +7,7 @@ use Rattle.cayley.specs.Problems.{version1, Point, Problem, EachSupport, with_ra
 use Rattle.cayley.specs.Files.{FilePoint, File, resting, plain_problem}
 use Rattle.cayley.specs.declared.points.FilePoint.{FilePoint as StoredFilePoint}
 use Rattle.cayley.specs.Stored.{file_point}
-use Rattle.cayley.specs.Valid.{IsCoordinate, IsHeight, IsValidFile, IsValidProblem, HasProblemShape, AreDistinct, IsWithinFile, IsWithinProblem, IsWithinCorners}
+use Rattle.cayley.specs.Valid.{IsValidFile, IsValidProblem, AreDistinct, IsWithinFile, IsWithinProblem, IsWithinCorners}
 use Rattle.cayley.proofs.Lists.{map_map, map_same, each_map, each_weaker, each_unmap}
 
 abbrev pub resting_all : List (List FilePoint) → List (List Point)

@@ -1,13 +1,13 @@
 -- the faults of a problem, support by support
-use Rattle.std.proofs.Common.{◌≡◌, ℕ, zero, suc, ◌+◌, ◌-◌, ◌<◌, ◌≤◌, List, [], length, map, take, drop, arith, refl, ap, sym, ◌∙◌, subst, ◌⊎◌, inl, inr, length-take-le, length-drop}
-use Rattle.std.specs.Prelude.{pos, slice_index_or}
+use Rattle.std.proofs.Common.{◌≡◌, ℕ, ◌+◌, ◌-◌, ◌<◌, ◌≤◌, List, [], length, map, take, drop, arith, refl, ap, sym, ◌∙◌, subst, inl, inr, length-take-le, length-drop}
+use Rattle.std.specs.Prelude.{slice_index_or}
 use Rattle.std.proofs.lemmas.Bool.{cases_lt}
 use Rattle.std.proofs.lemmas.List.{length-map}
 use Rattle.int_vectors.specs.Vectors.{Each}
 use Rattle.cayley.specs.declared.faults.ShapeFault.{ShapeFault}
 use Rattle.cayley.specs.declared.faults.ShapeFault.TheVariants.{BadShape, Repeated, Range, StartRange, OutOfMemory}
 use Rattle.cayley.specs.declared.points.Support.{Support}
-use Rattle.cayley.specs.Problems.{Point, Problem, version1, origin, point_at, HasCorners, HasRanks, with_rank}
+use Rattle.cayley.specs.Problems.{Point, Problem, version1, origin, HasCorners, HasRanks, with_rank}
 use Rattle.cayley.specs.Shapes.{IsFaultyOf, IsOutsideOf, IsPlaceFault, IsSupportFault, IsProblemFault}
 use Rattle.cayley.specs.Stored.{held, point, problem_of}
 use Rattle.cayley.specs.Valid.{IsWithinProblem, IsWithinCorners, AreDistinct, HasProblemShape, IsValidProblem, support_at, file_count_at}

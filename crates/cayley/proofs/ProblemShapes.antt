@@ -1,15 +1,15 @@
 -- the shape of a problem, from the shape of the code's supports
-use Rattle.std.proofs.Common.{◌≡◌, ℕ, zero, suc, ◌+◌, ◌<◌, ◌≤◌, List, [], ◌∷◌, length, map, take, drop, arith, ap, sym, ◌∙◌, subst, ◌⊎◌, inl, inr}
+use Rattle.std.proofs.Common.{◌≡◌, ℕ, suc, ◌+◌, ◌<◌, ◌≤◌, List, [], ◌∷◌, length, map, take, drop, arith, ap, sym, ◌∙◌, subst, ◌⊎◌, inl, inr}
 use Rattle.std.specs.Prelude.{pos, slice_index_or}
 use Rattle.std.specs.List.{All}
 use Rattle.std.proofs.lemmas.List.{length-map}
 use Rattle.int_vectors.specs.Vectors.{Each}
 use Rattle.cayley.specs.declared.points.Point.{Point as StoredPoint}
 use Rattle.cayley.specs.declared.points.Support.{Support}
-use Rattle.cayley.specs.Problems.{Point, Problem, EachSupport, HasCorners}
+use Rattle.cayley.specs.Problems.{Point, EachSupport, HasCorners}
 use Rattle.cayley.specs.Stored.{point, problem_of}
 use Rattle.cayley.specs.Valid.{HasProblemShape}
-use Rattle.cayley.proofs.Lists.{each_all, all_each, each_map, each_unmap, each_weaker, each_both, map_take, map_drop}
+use Rattle.cayley.proofs.Lists.{each_all, all_each, each_map, each_unmap, each_weaker, map_take, map_drop}
 
 abbrev points_of : Support → List Point
 points_of s = map point s.points.items

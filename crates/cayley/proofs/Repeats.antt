@@ -1,14 +1,14 @@
 -- lists that are kept in order, and whether one of them comes again
-use Rattle.std.proofs.Common.{◌≡◌, ℕ, zero, suc, ◌+◌, ◌-◌, ◌<◌, ◌≤◌, ◌↔◌, List, [], ◌∷◌, length, arith, refl, ap, ap₂, sym, ◌∙◌, subst, ◌⊎◌, inl, inr, Bool, true, false, cond}
+use Rattle.std.proofs.Common.{◌≡◌, ℕ, ◌+◌, ◌-◌, ◌<◌, ◌↔◌, List, [], ◌∷◌, length, arith, refl, ap, ap₂, sym, ◌∙◌, subst, inl, inr, true, cond}
 use Rattle.std.specs.Prelude.{ℤ, ◌<ℤ◌, slice_index_or, IsTrue}
 use Rattle.std.specs.Ordering.{int_cmp, MatchOrdering, ordering_then, is_eq}
 use Rattle.std.specs.declared.cmp.Ordering.{Ordering}
 use Rattle.std.specs.declared.cmp.Ordering.TheVariants.{Less, Equal, Greater}
 use Rattle.std.specs.Cmp.{int_ranks, int_cmp_is}
 use Rattle.std.specs.Cmp.Lexicographic.{slice_cmp}
-use Rattle.std.specs.BTreeSet.{BTreeSet, contains, Updates, IsEmpty}
+use Rattle.std.specs.BTreeSet.{BTreeSet, contains, Updates}
 use Rattle.std.proofs.lemmas.Bool.{cases_lt}
-use Rattle.cayley.specs.Shapes.{IsPosition, IsRepeat}
+use Rattle.cayley.specs.Shapes.{IsRepeat}
 use denote.Ref.{Bor}
 
 pub lists_equal : (xs ys : List ℤ) → slice_cmp int_cmp xs ys ≡ Equal → xs ≡ ys

@@ -1,12 +1,12 @@
 -- limits are tests: what can't be refuted holds
-use Rattle.std.proofs.Common.{◌≡◌, ℕ, ◌<◌, ◌≤◌, List, [], ◌∷◌, arith, inl, inr}
-use Rattle.std.specs.Prelude.{ℤ, pos, negsuc, ◌≤ℤ◌, unsigned_abs}
+use Rattle.std.proofs.Common.{ℕ, ◌≤◌, List, [], ◌∷◌, arith, inl, inr}
+use Rattle.std.specs.Prelude.{ℤ, pos, negsuc, unsigned_abs}
 use Rattle.std.proofs.lemmas.Bool.{cases_lt}
 use Rattle.std.proofs.lemmas.Int.{ints}
 use Rattle.int_vectors.specs.Vectors.{Each}
 use Rattle.cayley.specs.Files.{FilePoint}
 use Rattle.cayley.specs.Problems.{Point}
-use Rattle.cayley.specs.Valid.{IsWithinFile, IsWithinProblem, IsWithinCorners, IsCornerBase}
+use Rattle.cayley.specs.Valid.{IsWithinFile, IsWithinCorners, IsCornerBase}
 
 pub le_stable : (a b : ℕ) → ¬ (¬ (a ≤ b)) → a ≤ b
 le_stable a b h = elim (cases_lt b a) [ inl p ↦ absurd (h (λ q. omega arith)) | inr p ↦ p ]

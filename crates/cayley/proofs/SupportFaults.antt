@@ -1,6 +1,6 @@
 -- the faults of one support of a problem: of its file points, then of its corners
-use Rattle.std.proofs.Common.{◌≡◌, ℕ, zero, suc, ◌+◌, ◌-◌, ◌<◌, ◌≤◌, List, [], length, map, take, drop, arith, refl, ap, sym, ◌∙◌, subst, ◌⊎◌, inl, inr, length-take-le, length-drop}
-use Rattle.std.specs.Prelude.{pos, slice_index_or}
+use Rattle.std.proofs.Common.{◌≡◌, ℕ, ◌+◌, ◌-◌, ◌<◌, ◌≤◌, List, length, map, take, drop, arith, refl, sym, ◌∙◌, subst, inl, inr, length-take-le, length-drop}
+use Rattle.std.specs.Prelude.{slice_index_or}
 use Rattle.std.proofs.lemmas.Bool.{cases_lt}
 use Rattle.std.proofs.lemmas.List.{length-map}
 use Rattle.int_vectors.specs.Vectors.{Each}
@@ -8,9 +8,9 @@ use Rattle.cayley.specs.declared.faults.ShapeFault.{ShapeFault}
 use Rattle.cayley.specs.declared.faults.ShapeFault.TheVariants.{BadShape, Repeated, Range, StartRange, OutOfMemory}
 use Rattle.cayley.specs.Files.{FilePoint}
 use Rattle.cayley.specs.Problems.{Point, origin, point_at}
-use Rattle.cayley.specs.Shapes.{IsPosition, IsRepeat, IsOutside, IsFaulty, IsOutsideOf, IsFaultyOf, IsFirstCorner, IsSupportFault, file_point_at}
+use Rattle.cayley.specs.Shapes.{IsRepeat, IsOutside, IsFaulty, IsOutsideOf, IsFaultyOf, IsFirstCorner, IsSupportFault, file_point_at}
 use Rattle.cayley.specs.Stored.{held}
-use Rattle.cayley.specs.Valid.{IsWithinFile, IsWithinProblem, IsWithinCorners}
+use Rattle.cayley.specs.Valid.{IsWithinFile, IsWithinCorners}
 use Rattle.cayley.proofs.Lists.{all_each, map_at, map_map, read_take, read_drop, same_read}
 
 module _ (f : ℕ) (s : List Point) (long : f ≤ length s) where

@@ -3,11 +3,11 @@ use Rattle.std.proofs.Common.{◌≡◌, ℕ, zero, suc, ◌<◌, ◌≤◌, Lis
 use Rattle.std.specs.Prelude.{slice_index_or}
 use Rattle.std.proofs.lemmas.List.{length-map}
 use Rattle.std.proofs.Math.IntN.{ℤ, pos}
-use Rattle.int_vectors.specs.Vectors.{Each, IsZero, sub, dot}
+use Rattle.int_vectors.specs.Vectors.{Each, sub, dot}
 use Rattle.cayley.specs.Problems.{Point, Problem, IsProblem, origin, point_at, with_rank, unperturbed, HasSamePoints}
-use Rattle.cayley.specs.Cells.{Cell, EachPair, IsOf, IsIndependent, IsFurther}
+use Rattle.cayley.specs.Cells.{Cell, EachPair, IsOf, IsIndependent}
 use Rattle.cayley.specs.Rows.{edge_row, edge_rows_from, edge_rows}
-use Rattle.cayley.specs.Dependencies.{support_at, pair_at, IsFurtherAt}
+use Rattle.cayley.specs.Dependencies.{support_at, IsFurtherAt}
 use Rattle.cayley.proofs.Lists.{each_map, each_unmap}
 
 abbrev pub unranked : List Point → List Point
@@ -114,6 +114,6 @@ same_unperturbed p = ap (λ (ss : List (List Point)). record (unperturbed p) { s
 pub same_further : (p q : Problem) (cell : Cell) (j c : ℕ) → HasSamePoints p q → IsFurtherAt p cell j c → IsFurtherAt q cell j c
 same_further p q cell j c e f =
     let m : length (support_at p.supports j) ≡ length (support_at q.supports j) =
-        sym (length-map (support_at p.supports j) (with_rank 0)) ∙ ap length (sym (support_unranked p.supports j) ∙ ap (λ ss. support_at ss j) (same_points p q e) ∙ support_unranked q.supports j)
-        ∙ length-map (support_at q.supports j) (with_rank 0) in
+    sym (length-map (support_at p.supports j) (with_rank 0)) ∙ ap length (sym (support_unranked p.supports j) ∙ ap (λ ss. support_at ss j) (same_points p q e) ∙ support_unranked q.supports j)
+    ∙ length-map (support_at q.supports j) (with_rank 0) in
     (f.0, subst (λ n. c ≤ n) m f.1, f.2, f.3)

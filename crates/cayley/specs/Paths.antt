@@ -1,4 +1,4 @@
--- The path of a file: its file points rest, and a simplex of corners round each support falls away from below.
+-- The path of a file: its file points rest, and the heights of a simplex of corners round each support rise with the time.
 use Rattle.std.specs.Prelude.{ℕ, zero, suc, ◌+◌, ◌*◌, ◌%◌, ◌-◌, ◌==◌, if◌then◌else◌, ◌++◌, List, [], ◌∷◌, length, map, ℤ, pos, ◌+ℤ◌, Option, None, Some}
 use Rattle.std.specs.Int.{int_min, int_max}
 use Rattle.int_vectors.specs.Vectors.{add, sub, at_place}

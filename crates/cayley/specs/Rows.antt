@@ -1,5 +1,5 @@
 -- The rows of a cell, on which the elimination works.
-use Rattle.std.specs.Prelude.{ℕ, zero, suc, List, [], ◌∷◌, ◌++◌, ℤ, pos, ◌-ℤ◌, slice_set, replicate}
+use Rattle.std.specs.Prelude.{ℕ, suc, List, [], ◌∷◌, ◌++◌, ℤ, pos, ◌-ℤ◌, slice_set, replicate}
 use Rattle.int_vectors.specs.Vectors.{sub}
 use Rattle.cayley.specs.Cells.{Cell}
 use Rattle.cayley.specs.Problems.{Point, Problem, point_at}

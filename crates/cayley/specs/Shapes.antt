@@ -1,5 +1,5 @@
 -- Faults of files and of problems, and the places that they name. Supports and positions count from 1.
-use Rattle.std.specs.Prelude.{◌≡◌, ◌⊎◌, ℕ, ◌<◌, ◌≤◌, ◌-◌, List, [], Option, MatchOption, length, map, take, ℤ, pos, slice_index_or}
+use Rattle.std.specs.Prelude.{◌≡◌, ◌⊎◌, ℕ, ◌<◌, ◌≤◌, ◌-◌, List, [], MatchOption, length, map, take, ℤ, pos, slice_index_or}
 use Rattle.int_vectors.specs.Vectors.{Each}
 use Rattle.cayley.specs.declared.faults.ShapeFault.{ShapeFault}
 use Rattle.cayley.specs.declared.faults.ShapeFault.TheVariants.{BadShape, Repeated, Range, StartRange, OutOfMemory}

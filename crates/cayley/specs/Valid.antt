@@ -1,9 +1,9 @@
 -- What the types of cells, files and problems keep.
-use Rattle.std.specs.Prelude.{◌≡◌, ◌≢◌, ℕ, ◌<◌, ◌≤◌, ◌-◌, List, [], Option, MatchOption, length, map, take, drop, ℤ, pos, ◌≤ℤ◌, unsigned_abs, slice_index_or}
+use Rattle.std.specs.Prelude.{◌≡◌, ◌≢◌, ℕ, ◌<◌, ◌≤◌, ◌-◌, List, [], MatchOption, length, map, take, drop, ℤ, pos, ◌≤ℤ◌, unsigned_abs, slice_index_or}
 use Rattle.int_vectors.specs.Vectors.{Each}
 use Rattle.cayley.specs.Cells.{Cell, IsCell}
 use Rattle.cayley.specs.Files.{FilePoint, File}
-use Rattle.cayley.specs.Problems.{Version, version1, Point, Problem, IsProblem, EachSupport, HasCorners, IsStill, HasRanks}
+use Rattle.cayley.specs.Problems.{version1, Point, Problem, IsProblem, EachSupport, HasCorners, IsStill, HasRanks}
 
 -- one to sixteen pairs, each of which rises
 abbrev pub IsValidCell : Cell → Type 0

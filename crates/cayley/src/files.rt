@@ -96,6 +96,7 @@ impl LiftFile {
         &self.supports[i as usize - 1]
     }
 
+    /// The n supports in order, each the list of its points.
     pub fn supports(&self) -> &[Vec<FilePoint>]
         ensures value { map (λ s. map file_point s.items) result.now ≡ self.now.supports }
         ensures valid { IsValidFile self.now }

@@ -45,7 +45,7 @@ pub fn chain_law()
     ensures { ChainLaw }
 {}
 
-/// At a wall with one level point the numbers of a dependency tell the successors, the predecessors and the kept children (Jensen 2016).
+/// At a wall with one level point the numbers of a dependency tell the successors, the predecessors and the kept children (flips, in outline after Jensen 2016).
 pub fn flip_law()
     ensures { FlipLaw }
 {}
@@ -90,7 +90,7 @@ pub fn tie_free_law()
     ensures { TieFreeLaw }
 {}
 
-/// The share of a branch is its own cell, where that is mixed, with the shares of its children (Avis and Fukuda 1996).
+/// The share of a branch is its own cell, where that is mixed, with the shares of its children (after the reverse search of Avis and Fukuda 1996).
 pub fn share_law()
     ensures { ShareLaw }
 {}

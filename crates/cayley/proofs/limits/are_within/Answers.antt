@@ -1,4 +1,4 @@
-use Rattle.std.proofs.Common.{ℕ, ◌<◌, ◌≤◌, ◌↔◌, rules}
+use Rattle.std.proofs.Common.{◌≤◌, ◌↔◌, rules}
 use Rattle.std.specs.Prelude.{IsTrue, ℤ, unsigned_abs}
 use Rattle.std.specs.List.{All}
 use Rattle.cayley.proofs.Lists.{each_all, all_each}

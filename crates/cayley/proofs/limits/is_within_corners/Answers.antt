@@ -1,4 +1,4 @@
-use Rattle.std.proofs.Common.{rules, ◌≤◌, ◌↔◌, ◌≡◌, List, subst, FitsSigned, to_z-of_z}
+use Rattle.std.proofs.Common.{rules, ◌≤◌, ◌↔◌, List, subst, FitsSigned, to_z-of_z}
 use Rattle.std.specs.Prelude.{IsTrue, ℤ, unsigned_abs}
 use Rattle.std.specs.Int.{w64}
 use Rattle.int_vectors.specs.Vectors.{Each}

@@ -1,4 +1,4 @@
-use Rattle.std.proofs.Common.{◌≤◌, ◌↔◌, ◌≡◌, List, subst, sym, ◌∙◌, false}
+use Rattle.std.proofs.Common.{◌≤◌, ◌↔◌, List, subst}
 use Rattle.std.specs.Prelude.{IsTrue, ℤ, unsigned_abs}
 use Rattle.int_vectors.specs.Vectors.{Each}
 use Rattle.cayley.proofs.limits.is_within_file.Goals as goal

@@ -1,4 +1,4 @@
-use Rattle.std.proofs.Common.{◌≡◌, refl, arith}
+use Rattle.std.proofs.Common.{refl, arith}
 use Rattle.std.proofs.lemmas.Result.{MatchResult-weaker}
 use Rattle.cayley.specs.Stored.{problem_of}
 use Rattle.cayley.proofs.ProblemShapes.{shape_to, counted}

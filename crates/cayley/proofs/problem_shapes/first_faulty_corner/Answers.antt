@@ -1,8 +1,8 @@
-use Rattle.std.proofs.Common.{◌≡◌, ◌+◌, ◌<◌, ◌∙◌, ℕ, map, length, arith, subst, sym, ap, inl, inr}
+use Rattle.std.proofs.Common.{◌≡◌, ◌∙◌, map, arith, subst, sym, ap, inl, inr}
 use Rattle.std.specs.Prelude.{slice_index_or}
 use Rattle.std.proofs.lemmas.Bool.{cases_lt}
 use Rattle.std.proofs.lemmas.List.{length-map}
-use Rattle.cayley.specs.Problems.{Point, origin}
+use Rattle.cayley.specs.Problems.{origin}
 use Rattle.cayley.specs.Stored.{point}
 use Rattle.cayley.specs.Valid.{IsWithinCorners}
 use Rattle.cayley.proofs.Lists.{each_all, map_at, same_read}

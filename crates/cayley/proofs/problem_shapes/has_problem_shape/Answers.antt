@@ -1,4 +1,3 @@
-use Rattle.std.proofs.Common.{◌≡◌}
 use Rattle.cayley.proofs.ProblemShapes.{shape_from, shape_to}
 use Rattle.cayley.proofs.problem_shapes.has_problem_shape.Goals as goal
 

@@ -1,4 +1,4 @@
-use Rattle.std.proofs.Common.{rules, ◌≡◌, ◌∙◌, ◌++◌, ◌∷◌, List, [], ℤ, pos, ◌-ℤ◌, length, sym, ap, ap₂, subst, arith, FitsSigned, to_z-of_z}
+use Rattle.std.proofs.Common.{rules, ◌≡◌, ◌∙◌, ◌++◌, ◌∷◌, ℤ, ◌-ℤ◌, length, sym, ap, ap₂, subst, arith, FitsSigned, to_z-of_z}
 use Rattle.std.specs.Int.{w64, w128}
 use Rattle.std.proofs.lemmas.Int.{ints}
 use Rattle.wide_int.specs.Whole.{FitsWhole}

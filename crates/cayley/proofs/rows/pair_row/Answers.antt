@@ -1,4 +1,4 @@
-use Rattle.std.proofs.Common.{◌≡◌, ◌-◌, ◌∙◌, ap₂, arith}
+use Rattle.std.proofs.Common.{◌-◌, ◌∙◌, ap₂, arith}
 use Rattle.cayley.specs.Problems.{origin}
 use Rattle.cayley.specs.Rows.{edge_row}
 use Rattle.cayley.specs.Stored.{point}

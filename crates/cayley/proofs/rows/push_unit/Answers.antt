@@ -1,4 +1,4 @@
-use Rattle.std.proofs.Common.{◌∙◌, sym, ap, arith}
+use Rattle.std.proofs.Common.{arith}
 use Rattle.cayley.proofs.EdgeRows.{unit_set}
 use Rattle.cayley.proofs.rows.push_unit.Goals as goal
 

@@ -1,7 +1,5 @@
-use Rattle.std.proofs.Common.{◌≡◌, List, refl}
-use Rattle.std.specs.Prelude.{Option}
+use Rattle.std.proofs.Common.{refl}
 use Rattle.std.proofs.lemmas.Result.{err_from_is_err_and}
-use Rattle.cayley.specs.Files.{File}
 use Rattle.cayley.proofs.FileShapes.{given, few_points, few_starts, same_points}
 use Rattle.cayley.proofs.FileFaults.{file_fault, start_fault, file_valid}
 use Rattle.cayley.proofs.shapes.check_file.Goals as goal

@@ -1,4 +1,4 @@
-use Rattle.std.proofs.Common.{◌≡◌, ◌∙◌, ℕ, ◌+◌, ◌≤◌, List, map, length, arith, subst, ap}
+use Rattle.std.proofs.Common.{◌∙◌, ℕ, ◌+◌, List, map, arith, subst, ap}
 use Rattle.std.proofs.lemmas.Result.{err_from_is_err_and}
 use Rattle.std.proofs.lemmas.List.{length-map}
 use Rattle.cayley.specs.Files.{FilePoint}

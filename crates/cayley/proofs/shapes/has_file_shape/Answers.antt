@@ -1,4 +1,3 @@
-use Rattle.std.proofs.Common.{◌≡◌}
 use Rattle.cayley.proofs.FileShapes.{shape_from, shape_to}
 use Rattle.cayley.proofs.shapes.has_file_shape.Goals as goal
 

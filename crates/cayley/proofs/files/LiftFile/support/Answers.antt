@@ -1,6 +1,6 @@
-use Rattle.std.proofs.Common.{◌≡◌, ◌-◌, ◌<◌, [], map, slice_index_or, length, ◌∙◌, ap, arith, subst, sym}
+use Rattle.std.proofs.Common.{◌≡◌, ◌-◌, [], map, slice_index_or, ◌∙◌, ap, arith, subst, sym}
 use Rattle.std.proofs.lemmas.List.{length-map}
-use Rattle.cayley.specs.Files.{FilePoint, File}
+use Rattle.cayley.specs.Files.{File}
 use Rattle.cayley.specs.Stored.{file_point}
 use Rattle.cayley.proofs.Lists.{map_at, map_map}
 use Rattle.cayley.proofs.files.LiftFile.support.Goals as goal

@@ -1,4 +1,4 @@
-use Rattle.std.proofs.Common.{◌≡◌, map, ◌∙◌, ap, sym}
+use Rattle.std.proofs.Common.{map, ◌∙◌, ap, sym}
 use Rattle.cayley.specs.Files.{File}
 use Rattle.cayley.specs.Stored.{file_point}
 use Rattle.cayley.proofs.Lists.{map_map}

@@ -1,4 +1,4 @@
-use Rattle.std.proofs.Common.{◌≡◌, ◌<◌, ◌≤◌, ◌↔◌, List, ℕ, length, map, subst, sym}
+use Rattle.std.proofs.Common.{◌<◌, ◌≤◌, ◌↔◌, List, length, map, subst}
 use Rattle.std.specs.Prelude.{IsTrue}
 use Rattle.cayley.specs.Cells.{Cell, EachPair, IsOf}
 use Rattle.cayley.specs.Problems.{Problem}

@@ -1,4 +1,4 @@
-use Rattle.std.proofs.Common.{◌≡◌, ◌-◌, ℕ, ◌≤◌, length, map, [], arith, ap, Fits}
+use Rattle.std.proofs.Common.{◌-◌, length, map, [], arith, ap}
 use Rattle.std.proofs.lemmas.List.{length-map}
 use Rattle.cayley.specs.Problems.{Problem}
 use Rattle.cayley.specs.Stored.{point, problem_of}

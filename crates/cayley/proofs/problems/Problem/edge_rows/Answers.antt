@@ -1,4 +1,4 @@
-use Rattle.std.proofs.Common.{◌≡◌, ◌∙◌, ◌+◌, ◌*◌, ◌<◌, ◌≤◌, ℕ, List, map, length, subst, sym, ap, ap₂, arith}
+use Rattle.std.proofs.Common.{◌≡◌, ◌∙◌, ◌+◌, ◌*◌, ◌<◌, ◌≤◌, ℕ, List, map, length, subst, sym, ap, ap₂}
 use Rattle.std.specs.Prelude.{ℤ}
 use Rattle.std.specs.List.{All}
 use Rattle.std.proofs.lemmas.List.{length-map}
@@ -7,7 +7,7 @@ use Rattle.int_vectors.specs.Vectors.{Each}
 use Rattle.cayley.specs.Cells.{Cell, EachPair, IsOf}
 use Rattle.cayley.specs.Problems.{Problem, Point}
 use Rattle.cayley.specs.Rows.{edge_rows, edge_rows_from}
-use Rattle.cayley.specs.Stored.{point, problem_of}
+use Rattle.cayley.specs.Stored.{point}
 use Rattle.cayley.specs.Valid.{IsValidProblem, IsCornerCoordinate}
 use Rattle.cayley.specs.declared.points.Point.{Point as StoredPoint}
 use Rattle.cayley.specs.declared.points.Support.{Support}

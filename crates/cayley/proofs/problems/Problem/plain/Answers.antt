@@ -1,6 +1,4 @@
-use Rattle.std.proofs.Common.{◌≡◌, ◌∙◌, sym, subst}
-use Rattle.cayley.specs.Files.{File}
-use Rattle.cayley.specs.Problems.{Problem}
+use Rattle.std.proofs.Common.{◌∙◌, sym, subst}
 use Rattle.cayley.specs.Valid.{IsValidProblem}
 use Rattle.cayley.proofs.Lists.{all_each}
 use Rattle.cayley.proofs.PlainProblems.{plain_is, plain_valid, few, counts_of, points_of, alike}
