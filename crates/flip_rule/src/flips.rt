@@ -82,8 +82,8 @@ fn with_flip(cell: &Cell, flip: Cell, gone: u32, position: u32) -> Few
 /// The cells that take the new point in place of a point of the pair whose sign is `Minus`.
 ///
 /// `support` and `position` name the new point, and count from 1. At a wall where this point alone
-/// is level they are the cells that begin there and that the cell precedes (Jensen 2016). No memory
-/// is taken.
+/// is level they are the cells that begin there and that the cell precedes (flips, in outline after
+/// Jensen 2016). No memory is taken.
 pub fn successors(cell: &Cell, support: u32, position: u32, signs: &Signs) -> Few
     requires support { (1 ≤ support) × (support ≤ length cell.now) }
     requires new { IsNewPoint cell.now (support - 1) position }
