@@ -1,9 +1,9 @@
-ghost use Rattle.std.specs.Prelude.{◌≡◌, ◌≤◌, ◌-◌, ◌+◌, ◌*◌, ◌↔◌, IsTrue, IfOk, MatchResult, length};
+ghost use Rattle.std.specs.Prelude.{◌≡◌, ◌≤◌, ◌<◌, ◌-◌, ◌+◌, ◌*◌, ◌↔◌, IsTrue, IfOk, MatchResult, length};
 ghost use Rattle.std.specs.List.{All};
 ghost use Rattle.cayley.specs.Cells.{IsOf};
 ghost use Rattle.cayley.specs.Files.{plain_problem};
 ghost use Rattle.cayley.specs.Problems.{point_at};
-ghost use Rattle.cayley.specs.Rows.{edge_rows};
+ghost use Rattle.cayley.specs.Rows.{edge_row, edge_rows};
 ghost use Rattle.cayley.specs.Shapes.{IsProblemFault};
 ghost use Rattle.cayley.specs.Stored.{point, problem_of};
 ghost use Rattle.cayley.specs.Valid.{IsValidProblem, support_at, file_count_at};
@@ -15,7 +15,7 @@ use crate::plain::resting_supports;
 use crate::points::{Point, Support};
 use crate::positions::has_positions;
 use crate::problem_shapes::check_problem;
-use crate::rows::rows_of;
+use crate::rows::{pair_row, rows_of};
 use int_vectors::IntVec;
 use std::alloc::Global;
 use std::marker::Model;
@@ -138,5 +138,17 @@ impl Problem {
         ensures valid { IsValidProblem self.now }
     {
         rows_of(alloc, self.dim, &self.supports, cell.pairs())
+    }
+
+    /// The row for a pair of positions of support i, counted from 1, as in `edge_rows`.
+    pub fn edge_row(&self, alloc: Global, i: u32, pair: (u32, u32)) -> Result<IntVec, OutOfMemory>
+        requires least { 1 ≤ i }
+        requires greatest { i ≤ self.now.dimension }
+        requires pair { (1 ≤ pair.0) × (pair.0 < pair.1) × (pair.1 ≤ length (support_at self.now i)) }
+        ensures { let s = support_at self.now i in
+            IfOk result (λ row. row ≡ edge_row self.now.dimension (i - 1) (point_at s pair.0) (point_at s pair.1)) }
+    {
+        let place = i as usize - 1;
+        pair_row(alloc, self.dim, place, &self.supports[place].points, pair)
     }
 }

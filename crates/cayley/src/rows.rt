@@ -89,8 +89,8 @@ fn entries_of(
     Ok(row)
 }
 
-// The row of a pair of positions of a support.
-fn pair_row(
+/// The row of a pair of positions of a support.
+pub(crate) fn pair_row(
     alloc: Global,
     dim: usize,
     place: usize,
