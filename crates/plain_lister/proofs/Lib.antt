@@ -6,6 +6,9 @@ pub mod Still
 pub mod Lowest
 pub mod Odometer
 pub mod Turning
+pub mod Picking
+pub mod Listed
+pub mod Shown
 pub mod Between
 pub mod Plain
 pub mod Rising

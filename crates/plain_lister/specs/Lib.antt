@@ -1,5 +1,6 @@
 pub mod Choices
 pub mod Workings
 pub mod Order
+pub mod Wheels
 pub mod Lists
 pub mod Progress

@@ -1,5 +1,6 @@
 -- The choices in cell order, by the number of points of each support.
-use Rattle.std.specs.Prelude.{◌≡◌, ◌⊎◌, ◌↔◌, ℕ, ◌+◌, ◌*◌, ◌-◌, ◌<◌, ◌≤◌, List, [], ◌∷◌, map}
+use Rattle.std.specs.Prelude.{◌≡◌, ◌⊎◌, ◌↔◌, ℕ, ◌+◌, ◌*◌, ◌-◌, ◌<◌, ◌≤◌, List, [], ◌∷◌, map, flat_map}
+use Rattle.std.specs.List.{range_with_len}
 use Rattle.cayley.specs.Cells.{Cell, IsLess}
 
 abbrev pub Pair : Type 0
@@ -8,6 +9,10 @@ Pair = ℕ × ℕ
 -- a rising pair of positions of m points
 abbrev pub IsPair : ℕ → Pair → Type 0
 IsPair m x = (1 ≤ x.0) × (x.0 < x.1) × (x.1 ≤ m)
+
+-- all pairs of m positions in order: each first one with each second one after it
+abbrev pub all_pairs : ℕ → List Pair
+all_pairs m = flat_map (λ a. map (λ b. (a, b)) (range_with_len (a + 1) (m - a))) (range_with_len 1 (m - 1))
 
 abbrev pub IsPairLess : Pair → Pair → Type 0
 IsPairLess x y = (x.0 < y.0) ⊎ ((x.0 ≡ y.0) × (x.1 < y.1))

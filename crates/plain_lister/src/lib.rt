@@ -11,6 +11,7 @@ mod normals;
 mod rises;
 mod sums;
 mod trying;
+mod wheels;
 
 pub use faults::PlainFault;
 pub use lists::plain_list;

@@ -6,12 +6,14 @@ ghost use Rattle.int_vectors.specs.Vectors.{Each};
 ghost use Rattle.plain_lister.specs.Choices.{HasTooMany, HavePairs};
 ghost use Rattle.plain_lister.specs.Lists.{HasNoCorners, HasLowestNormal, AllFit, IsPlainFault};
 ghost use Rattle.plain_lister.specs.Order.{IsChoice, firsts, left_after};
+ghost use Rattle.plain_lister.specs.Wheels.{Show};
 ghost use Rattle.plain_lister.specs.Progress.{IsDone, Before, Tried, IsSearchFault, cells_of, steps_left};
 
 use crate::choices::advance;
 use crate::counting::{counts_of, excess, have_pairs};
 use crate::faults::PlainFault;
 use crate::trying::try_choice;
+use crate::wheels::{Wheel, wheels_of};
 use cayley::{FoundCell, Problem};
 use std::alloc::{AllocError, Global};
 
@@ -19,24 +21,26 @@ use std::alloc::{AllocError, Global};
 fn turn(
     alloc: Global,
     problem: &Problem,
-    counts: &[u32],
+    wheels: &mut [Wheel],
     pairs: &mut [(u32, u32)],
     found: &mut Vec<FoundCell>,
 ) -> Result<bool, PlainFault>
+    ghost counts: { List ℕ }
     requires valid { IsValidProblem problem.now }
     requires alone { HasNoCorners problem.now }
-    requires counts { counts.now ≡ map length problem.now.supports }
-    requires choice { IsChoice counts.now pairs.old }
+    requires counts { counts ≡ map length problem.now.supports }
+    requires choice { IsChoice counts pairs.old }
+    requires shown { Show counts wheels.old pairs.old }
     requires done { IsDone problem.now (Before pairs.old) found.old.items }
     ensures { MatchResult result
-        (λ going. (IsTrue going → IsChoice counts.now pairs.new) × IsDone problem.now (Tried going pairs.new) found.new.items
-        × steps_left going counts.now pairs.new < left_after counts.now pairs.old + 1)
+        (λ going. (IsTrue going → IsChoice counts pairs.new × Show counts wheels.new pairs.new) × IsDone problem.now (Tried going pairs.new) found.new.items
+        × steps_left going counts pairs.new < left_after counts pairs.old + 1)
         (IsSearchFault problem.now) }
 {
     if let Err(fault) = try_choice(alloc, problem, pairs, found) {
         return Err(fault);
     }
-    match advance(counts, pairs) {
+    match advance(wheels, pairs) {
         Some(_) => Ok(true),
         None => Ok(false),
     }
@@ -63,15 +67,19 @@ fn list_choices(
     requires alone { HasNoCorners problem.now }
     requires counts { counts.now ≡ map length problem.now.supports }
     requires pairs { HavePairs counts.now }
+    requires small { Each counts.now (λ count. count ≤ 1000) }
     ensures { MatchResult result (λ found. IsDone problem.now (λ _. Unit {0}) found.items) (IsSearchFault problem.now) }
 {
     let Ok(mut pairs) = first_choice(alloc, counts) else {
         return Err(PlainFault::OutOfMemory);
     };
+    let Ok(mut wheels) = wheels_of(alloc, counts) else {
+        return Err(PlainFault::OutOfMemory);
+    };
     let mut found = Vec::new(alloc);
     let mut going = true;
     while going {
-        match turn(alloc, problem, counts, &mut pairs, &mut found) {
+        match turn(alloc, problem, &mut wheels, &mut pairs, &mut found) {
             Ok(on) => going = on,
             Err(fault) => return Err(fault),
         }

@@ -4,25 +4,25 @@ use Rattle.plain_lister.proofs.Growing.{choice_to, search_fault, turn_on, turn_o
 use Rattle.plain_lister.proofs.lists.turn.Goals as goal
 
 pub try_choice-requires-clause-of : goal.try_choice-requires-clause-of
-try_choice-requires-clause-of c =
+try_choice-requires-clause-of g c =
     let r = c.requires in
-    choice_to c.args.problem.now.supports c.args.pairs.now (subst (λ l. IsChoice l c.args.pairs.now) r.counts r.choice)
+    choice_to c.args.problem.now.supports c.args.pairs.now (subst (λ l. IsChoice l c.args.pairs.now) r.1.1.0 r.1.1.1.0)
 
 pub returns-in-Err : goal.returns-in-Err
-returns-in-Err c =
+returns-in-Err g c =
     let r = c.requires in
-    search_fault c.args.problem.now c.args.pairs.now c.args.found.now.items c.in-Err.fault (choice_to c.args.problem.now.supports c.args.pairs.now (subst (λ l. IsChoice l c.args.pairs.now) r.counts r.choice)) r.done c.in-Err.ensures
+    search_fault c.args.problem.now c.args.pairs.now c.args.found.now.items c.in-Err.fault (choice_to c.args.problem.now.supports c.args.pairs.now (subst (λ l. IsChoice l c.args.pairs.now) r.1.1.0 r.1.1.1.0)) r.1.1.1.1.1 c.in-Err.ensures
 
 pub returns-in-Some : goal.returns-in-Some
-returns-in-Some c =
+returns-in-Some g c =
     let r = c.requires in
-    let a = c.in-Some.ensures in
+    let a = c.in-Some.ensures.next in
     let d = c.in_default.ensures in
     let l = a.2 in
-    ((λ t. a.1), turn_on c.args.problem.now r.valid r.alone c.args.counts.now r.counts c.args.pairs.now c.advance.new.pairs c.try_choice.new.found.items a.0 d, omega (arith, l))
+    ((λ t. (a.1, c.in-Some.ensures.shown)), turn_on c.args.problem.now r.0 r.1.0 g.counts r.1.1.0 c.args.pairs.now c.advance.new.pairs c.try_choice.new.found.items a.0 d, omega (arith, l))
 
 pub returns-in-None : goal.returns-in-None
-returns-in-None c =
+returns-in-None g c =
     let r = c.requires in
     let d = c.in_default.ensures in
-    ((λ t. absurd (no_going t)), turn_off c.args.problem.now r.valid r.alone c.args.counts.now r.counts c.args.pairs.now c.try_choice.new.found.items c.in-None.ensures d, omega arith)
+    ((λ t. absurd (no_going t)), turn_off c.args.problem.now r.0 r.1.0 g.counts r.1.1.0 c.args.pairs.now c.try_choice.new.found.items c.in-None.ensures.next d, omega arith)
