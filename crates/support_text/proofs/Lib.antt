@@ -1,6 +1,7 @@
 pub mod Numbers
 pub mod Series
-pub mod Among
+pub mod SeenPoints
+pub mod PointLines
 pub mod Kept
 pub mod Distinct
 pub mod ValidFiles

@@ -1,5 +1,6 @@
 -- Items read one after the other.
 use Rattle.std.proofs.Common.{◌≡◌, ℕ, suc, ◌+◌, ◌-◌, ◌<◌, ◌≤◌, List, [], ◌∷◌, ◌++◌, length, Ok, Err, refl, sym, ap, ◌∙◌, append_assoc, append-nil, arith}
+use Rattle.support_text.specs.declared.fault.FormatFault.{FormatFault}
 use Rattle.support_text.specs.declared.fault.TextFault.{TextFault}
 use Rattle.support_text.specs.declared.fault.TextFault.TheVariants.{Format, OutOfMemory}
 use Rattle.support_text.specs.Faults.{Reading, ◌>>=◌, Fails, series}
@@ -27,6 +28,17 @@ series_again Takes read before (x ∷ xs) s t each chain =
 pub bind_ok : {A B : Type 0} (r : Reading A) (f : A → Reading B) (y : B) → (r >>= f) ≡ Ok y → (x : A) × (r ≡ Ok x) × (f x ≡ Ok y)
 bind_ok (Ok x) f y e = (x, refl, e)
 bind_ok (Err d) f y e = absurd cc
+
+abbrev failed : {A : Type 0} → FormatFault → Reading A
+failed e = Err e
+
+err_is : {A : Type 0} (d e : FormatFault) → failed {A = A} d ≡ failed e → d ≡ e
+err_is d e h = cc
+
+-- the fault of the first of two steps, where the second never fails
+bind_err : {A B : Type 0} (r : Reading A) (f : A → B) (e : FormatFault) → (r >>= λ (x : A). Ok (f x)) ≡ Err e → r ≡ Err e
+bind_err (Ok x) f e h = absurd cc
+bind_err (Err d) f e h = ap failed (err_is d e h)
 
 abbrev done : {A : Type 0} → A → Reading A
 done x = Ok x
@@ -62,6 +74,19 @@ module _ {A S : Type 0} (read : List A → S → Reading (A × S)) (count turn :
       let k = left_over count turn lt in
       let one : series (count - turn) read before s ≡ Err f = rw (k, h) refl in
       sym so_far ∙ one
+
+  -- one item is read as a series of one
+  pub series_one : (after : List A) (t : S) → turn < count → series 1 read before s ≡ Ok (after, t) → series (count - turn) read before s ≡ whole → series (count - (turn + 1)) read after t ≡ whole
+  unfolding series
+  series_one after t lt e so_far =
+      let a = bind_ok (read before s) (λ (x : A × S). done (before ++ x.0 ∷ [], x.1)) (after, t) e in
+      let is = ok_is (before ++ a.0.0 ∷ [], a.0.1) (after, t) a.2 in
+      series_step after a.0.0 t (sym (ap (λ (p : List A × S). p.0) is)) lt (a.1 ∙ ap (λ (p : List A × S). done (a.0.0, p.1)) is) so_far
+
+  pub series_one_fails : (f : TextFault) → turn < count → Fails f (series 1 read before s) → series (count - turn) read before s ≡ whole → Fails f whole
+  unfolding series
+  series_one_fails OutOfMemory lt h so_far = tt
+  series_one_fails (Format f) lt h so_far = series_fails (Format f) lt (bind_err (read before s) (λ (x : A × S). (before ++ x.0 ∷ [], x.1)) f h) so_far
 
 pub series_start : {A S : Type 0} (read : List A → S → Reading (A × S)) (count : ℕ) (items : List A) (s : S) → items ≡ [] → series (count - 0) read items s ≡ series count read [] s
 series_start read count items s e =

@@ -4,6 +4,7 @@
 mod counts;
 mod endings;
 mod fault;
+mod gathered;
 mod lines;
 mod opening;
 mod points;

@@ -1,15 +1,16 @@
 // Supports of points, read line by line.
-ghost use Rattle.std.specs.Prelude.{◌≡◌, ◌≤◌, ◌<◌, ◌^◌, ◌↔◌, ℤ, pos, ◌≤ℤ◌, map, [], Any, IsTrue};
+ghost use Rattle.std.specs.Prelude.{◌≡◌, map, []};
 ghost use Rattle.cayley.specs.Stored.{file_point};
 ghost use Rattle.support_text.specs.Faults.{Gives, series};
 ghost use Rattle.support_text.specs.Words as spec;
 ghost use Rattle.support_text.specs.Words.{words};
 ghost use Rattle.support_text.specs.ProblemText as format;
-ghost use Rattle.support_text.specs.ProblemText.{is_among, point_at};
+ghost use Rattle.support_text.specs.ProblemText.{point_at};
 ghost use Rattle.support_text.specs.Stored.{support_view};
 
 use crate::counts::count;
-use crate::fault::{Kind, TextFault, fault_at};
+use crate::fault::{Kind, TextFault};
+use crate::gathered::Gathered;
 use crate::lines::{next_line, nothing_more, number, word};
 use cayley::FilePoint;
 use int_vectors::IntVec;
@@ -39,61 +40,30 @@ fn coordinates(alloc: Global, n: usize, line: &mut Line) -> Result<IntVec, TextF
     Ok(IntVec::from_vec(entries))
 }
 
-fn has_coordinates(point: &FilePoint, coords: &[i128]) -> bool
-    ensures { IsTrue result ↔ (point.now.coords ≡ coords.now) }
-{
-    point.coords.as_slice() == coords
-}
-
-// Whether one of the points has these coordinates.
-fn one_has_coordinates(points: &[FilePoint], coords: &[i128]) -> bool
-    ensures { IsTrue result ↔ Any (λ point. point.coords ≡ coords.now) points.now }
-{
-    points.iter().any(|point| has_coordinates(point, coords))
-}
-
-// The same, as it is told of what the points mean.
-fn stands_among(coords: &IntVec, points: &[FilePoint]) -> bool
-    ensures { result ≡ is_among coords.now (map file_point points.now) }
-{
-    one_has_coordinates(points, coords.as_slice())
-}
-
-// A point line, behind those of the earlier points of its support.
+// A point line, whatever the earlier points are.
 #[tactic(auto, unfolding(crate::specs::ProblemText::point_line))]
-fn point_line(
-    alloc: Global,
-    n: usize,
-    earlier: &[FilePoint],
-    line: &mut Line,
-) -> Result<FilePoint, TextFault>
-    ensures { Gives file_point result (format.point_line n (map file_point earlier.now) line.old.number (words line.old)) }
+fn point_line(alloc: Global, n: usize, line: &mut Line) -> Result<FilePoint, TextFault>
+    ensures reading { Gives file_point result (format.point_line n [] line.old.number (words line.old)) }
+    ensures number { line.new.number ≡ line.old.number }
 {
     let coords = coordinates(alloc, n, line)?;
     word(line, b":", Kind::Number)?;
     let height = number(line, -HEIGHT, HEIGHT, Kind::Number, Kind::Range)?;
     nothing_more(line, Kind::Number)?;
-    if stands_among(&coords, earlier) {
-        return Err(fault_at(line.number(), Kind::Repeated));
-    }
     Ok(FilePoint {
         coords,
         height: height as i64,
     })
 }
 
-#[tactic(auto, unfolding(crate::specs::Words::next_line))]
-fn point(
-    alloc: Global,
-    n: usize,
-    earlier: &[FilePoint],
-    lines: &mut Lines,
-) -> Result<FilePoint, TextFault>
-    ensures reading { Gives (λ x. (file_point x, lines.new.rows)) result (point_at n lines.old.end_line (map file_point earlier.now) lines.old.rows) }
+// The next point line, read in view of the earlier points.
+fn point(alloc: Global, n: usize, points: &mut Gathered, lines: &mut Lines) -> Result<(), TextFault>
+    ensures reading { Gives (λ done. (points.new, lines.new.rows)) result (series 1 (point_at n lines.old.end_line) points.old lines.old.rows) }
     ensures end_line { lines.new.end_line ≡ lines.old.end_line }
 {
     let mut line = next_line(lines)?;
-    point_line(alloc, n, earlier, &mut line)
+    let point = point_line(alloc, n, &mut line)?;
+    points.add(alloc, line.number(), point)
 }
 
 fn points(
@@ -105,18 +75,11 @@ fn points(
     ensures reading { Gives (λ points. (map file_point points.items, lines.new.rows)) result (series count (point_at n lines.old.end_line) [] lines.old.rows) }
     ensures end_line { lines.new.end_line ≡ lines.old.end_line }
 {
-    let mut points = Vec::new(alloc);
+    let mut points = Gathered::new(alloc);
     for _turn in 0..count {
-        if points.reserve(1).is_err() {
-            return Err(TextFault::OutOfMemory);
-        }
-        let point = match point(alloc, n, points.as_slice(), lines) {
-            Ok(point) => point,
-            Err(fault) => return Err(fault),
-        };
-        points.push_reserved(point);
+        point(alloc, n, &mut points, lines)?;
     }
-    Ok(points)
+    Ok(points.into_points())
 }
 
 #[tactic(auto, unfolding(crate::specs::ProblemText::support))]
