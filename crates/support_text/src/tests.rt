@@ -13,22 +13,28 @@ fn judged(alloc: Global, text: &[u8]) -> Result<(u64, u8), Fail> {
 }
 
 #[test]
-fn texts_and_their_first_faults(rt: HostRuntime) -> Result<(), Fail> {
-    let table: [(&[u8], (u64, u8)); 20] = [
+fn heads_and_counts(rt: HostRuntime) -> Result<(), Fail> {
+    let table: [(&[u8], (u64, u8)); 6] = [
         (b"", (1, 8)),
         (b"mixedcells 2\n", (1, 1)),
         (b"mixedcells 1\ndim 17\n", (2, 2)),
         (b"mixedcells 1\ndim 16\n", (3, 8)),
         (b"mixedcells 1\ndim 1\nsupport 0\n", (3, 3)),
         (b"mixedcells 1\ndim 1\nsupport 3\n", (4, 8)),
+    ];
+    for (text, fault) in table {
+        assert_eq!(rt; judged(rt.alloc(), text)?, fault);
+    }
+    Ok(())
+}
+
+#[test]
+fn point_lines(rt: HostRuntime) -> Result<(), Fail> {
+    let table: [(&[u8], (u64, u8)); 5] = [
         (b"mixedcells 1\ndim 1\nsupport 1\n0 : 1 1\nend\n", (4, 4)),
         (
             b"mixedcells 1\ndim 1\nsupport 1\n0 : 1000000001\nend\n",
             (4, 5),
-        ),
-        (
-            b"mixedcells 1\ndim 1\nsupport 2\n0 : 0\n0 : 1\nend\n",
-            (5, 6),
         ),
         (
             b"mixedcells 1\ndim 1\nsupport 2\n0 : 0\n1000000 : 1\nend\n",
@@ -39,16 +45,60 @@ fn texts_and_their_first_faults(rt: HostRuntime) -> Result<(), Fail> {
             (5, 5),
         ),
         (
+            b"mixedcells 1\r\n# note\r\n\ndim\t1\r\nsupport 2\r\n0:+0\r\n  2 : 01 # last\r\nend",
+            (0, 0),
+        ),
+    ];
+    for (text, fault) in table {
+        assert_eq!(rt; judged(rt.alloc(), text)?, fault);
+    }
+    Ok(())
+}
+
+#[test]
+fn repeated_points(rt: HostRuntime) -> Result<(), Fail> {
+    let table: [(&[u8], (u64, u8)); 6] = [
+        (
+            b"mixedcells 1\ndim 1\nsupport 2\n0 : 0\n0 : 1\nend\n",
+            (5, 6),
+        ),
+        (
+            b"mixedcells 1\ndim 1\nsupport 5\n3 : 0\n-1 : 0\n2 : 0\n-1 : 0\n3\nend\n",
+            (7, 6),
+        ),
+        (
+            b"mixedcells 1\ndim 1\nsupport 3\n3 : 0\n3 : 0 0\n3 : 0\nend\n",
+            (5, 4),
+        ),
+        (
+            b"mixedcells 1\ndim 2\nsupport 3\n0 1 : 0\n1 0 : 0\n0 1 : 0\n",
+            (6, 6),
+        ),
+        (
+            b"mixedcells 1\ndim 2\nsupport 3\n0 1 : 0\n1 0 : 0\n0 0 : 0\nsupport 1\n0 1 : 0\nend\n",
+            (0, 0),
+        ),
+        (
+            b"mixedcells 1\ndim 2\nsupport 1\n0 1 : 0\nsupport 2\n0 1 : 0\n+0 01 : 7\nend\n",
+            (7, 6),
+        ),
+    ];
+    for (text, fault) in table {
+        assert_eq!(rt; judged(rt.alloc(), text)?, fault);
+    }
+    Ok(())
+}
+
+#[test]
+fn endings(rt: HostRuntime) -> Result<(), Fail> {
+    let table: [(&[u8], (u64, u8)); 8] = [
+        (
             b"mixedcells 1\ndim 1\nsupport 2\n0 : 0\n2 : 1\nend\nmore\n",
             (7, 9),
         ),
         (b"mixedcells 1\ndim 1\nsupport 1\n0 : 1\nend 1\n", (5, 9)),
         (
             b"mixedcells 1\ndim 1\nsupport 1\n0 : 1\nstart\nend\n",
-            (0, 0),
-        ),
-        (
-            b"mixedcells 1\r\n# note\r\n\ndim\t1\r\nsupport 2\r\n0:+0\r\n  2 : 01 # last\r\nend",
             (0, 0),
         ),
         (
