@@ -6,7 +6,7 @@ use crate::ends::Failed;
 use std::marker::Model;
 
 #[derive(Drop)]
-pub struct CallPlan {
+pub(crate) struct CallPlan {
     piece: usize,
     failing: Vec<u64>,
     calls: u64,
@@ -25,7 +25,8 @@ impl Model for CallPlan {
 }
 
 impl CallPlan {
-    pub fn new(piece: usize, failing: Vec<u64>) -> CallPlan
+    // A plan of calls that move at most `piece` bytes, and fail where their number, from 1, stands in `failing`.
+    pub(crate) fn new(piece: usize, failing: Vec<u64>) -> CallPlan
         requires { 0 < piece }
         ensures { result ≡ new_plan piece failing.items }
     {
@@ -38,7 +39,7 @@ impl CallPlan {
     }
 
     // The most bytes that a call moves.
-    pub fn piece(&self) -> usize
+    pub(crate) fn piece(&self) -> usize
         ensures value { result ≡ self.now.piece }
         ensures some { 0 < result }
     {
@@ -46,7 +47,7 @@ impl CallPlan {
     }
 
     // Counts a call and tells whether it is one of those that fail.
-    pub fn call(&mut self) -> bool
+    pub(crate) fn call(&mut self) -> bool
         ensures failing { IsTrue result ↔ Contains self.old.failing (next self.old.calls) }
         ensures counted { self.new ≡ record self.old { calls = next self.old.calls } }
     {
@@ -55,7 +56,7 @@ impl CallPlan {
     }
 
     // Counts a fault.
-    pub fn fault(&mut self) -> Failed
+    pub(crate) fn fault(&mut self) -> Failed
         ensures counted { self.new ≡ record self.old { faults = next self.old.faults } }
         ensures later { self.old.faults ≤ self.new.faults }
     {
