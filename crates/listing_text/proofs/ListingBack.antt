@@ -1,6 +1,6 @@
 -- What is written as a listing is read as it.
-use Rattle.std.proofs.Common.{◌≡◌, ◌==◌, ℕ, zero, suc, ◌+◌, ◌-◌, ◌^◌, ◌<◌, ◌≤◌, ◌&&◌, Bool, true, false, cond, ℤ, pos, negsuc, neg_ℤ, ◌≤ℤ◌, List, [], ◌∷◌, ◌++◌, map, length, Option, Some, None, Result, Ok, Err, refl, sym, ap, subst, ◌∙◌, append_assoc, append-nil, arith, lit<, length-append}
-use Rattle.std.specs.Prelude.{decimal, codes, FitsSigned, flat_map, nat_lt, slice_index_or, unsigned_abs}
+use Rattle.std.proofs.Common.{◌≡◌, ℕ, zero, suc, ◌-◌, ◌^◌, ◌<◌, ◌≤◌, true, ℤ, pos, negsuc, neg_ℤ, ◌≤ℤ◌, List, [], ◌∷◌, ◌++◌, map, length, Ok, refl, sym, ap, subst, ◌∙◌, append_assoc, arith, lit<, length-append}
+use Rattle.std.specs.Prelude.{decimal, codes, FitsSigned, nat_lt, slice_index_or}
 use Rattle.std.specs.Int.{w128}
 use Rattle.std.specs.Fmt.{signed_decimal}
 use Rattle.std.proofs.lemmas.Bool.Decides.{Decides-ltb}
@@ -12,17 +12,16 @@ use Rattle.cayley.specs.Valid.{IsValidFile}
 use Rattle.cayley.specs.declared.found.FoundCell.{FoundCell}
 use Rattle.line_text.specs.Lines.{Row, lines_of, end_line_of}
 use Rattle.support_text.specs.declared.fault.Kind.TheVariants.{Count, Number, Range}
-use Rattle.support_text.specs.Faults.{Reading, ◌>>=◌, series}
-use Rattle.support_text.specs.Words.{Text, words, word, number, nothing_more, next_line, text_of}
+use Rattle.support_text.specs.Faults.{series}
+use Rattle.support_text.specs.Words.{Text, words, word, nothing_more, next_line}
 use Rattle.support_text.specs.ProblemText.{end_line, problem_at, no_line}
 use Rattle.support_text.specs.Writing.{problem_lines}
-use Rattle.support_text.proofs.Numbers.{IsWithin}
 use Rattle.support_text.proofs.Series.{Chain, ReadsEach, series_again}
 use Rattle.support_text.proofs.ReadBack.{AreLines, AreSmall, ReadsWords, lines_are, lines_split, next_again, number_again, numbers_again, end_again, file_again}
-use Rattle.support_text.proofs.WrittenWords.{IsWord, IsLine, plain_word, mark_word, number_word, lines_again, each-append, each-map, each-flat}
+use Rattle.support_text.proofs.WrittenWords.{IsWord, IsLine, plain_word, mark_word, number_word, lines_again, each-append, each-map}
 use Rattle.support_text.proofs.FileTexts.{file_lines, valid_is_read, count_word}
 use Rattle.listing_text.specs.declared.listing.ListedCell.{ListedCell}
-use Rattle.listing_text.specs.ListingText.{cells_line, pair, pair_at, normal_entry, cell_line, cell_at, cells_at, counts_of, listing_of}
+use Rattle.listing_text.specs.ListingText.{cells_line, pair, pair_at, cell_line, cell_at, cells_at, counts_of, listing_of}
 use Rattle.listing_text.specs.Writing.{position_words, cell_words, cells_lines, listing_lines, listing_text}
 use Rattle.listing_text.specs.Forms.{IsCellOf, IsEntry, IsFormed, found_of, MeansListing}
 use Rattle.listing_text.proofs.Limits.{entry_width}
@@ -43,7 +42,7 @@ pair_again m a b line ws least rise most small =
 abbrev TakesPair : ℕ × ℕ → List Text → List Text → Type 0
 TakesPair x s t = s ≡ decimal x.0 ∷ decimal x.1 ∷ t
 
-at_seam : (done : List ℕ) (m : ℕ) (ms : List ℕ) (k : ℕ) → k ≡ length done → slice_index_or (done ++ m ∷ ms) k 0 ≡ m
+pub at_seam : (done : List ℕ) (m : ℕ) (ms : List ℕ) (k : ℕ) → k ≡ length done → slice_index_or (done ++ m ∷ ms) k 0 ≡ m
 at_seam [] m ms zero e = refl
 at_seam [] m ms (suc k) e = absurd (omega arith)
 at_seam (d ∷ done) m ms zero e = absurd (omega arith)

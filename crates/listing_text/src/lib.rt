@@ -7,7 +7,7 @@ mod reading;
 mod writing;
 
 pub use listing::{ListedCell, Listing};
-pub use reading::{read_listing, written_listing_reads_back};
+pub use reading::{read_listing, read_listing_is_formed, written_listing_reads_back};
 pub use writing::{write_listing, write_positions};
 
 #[cfg(test)]

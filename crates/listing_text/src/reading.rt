@@ -1,9 +1,12 @@
 // Listings, read from their bytes.
-ghost use Rattle.std.specs.Prelude.{◌≡◌, ◌≤◌, length, map, All, IfOk};
+ghost use Rattle.std.specs.Prelude.{◌≡◌, ◌≤◌, ℕ, List, length, map, All, IfOk, Ok};
+ghost use Rattle.cayley.specs.Files.{File};
+ghost use Rattle.cayley.specs.Valid.{IsValidFile};
 ghost use Rattle.support_text.specs.Faults.{Gives};
 ghost use Rattle.listing_text.specs.ListingText as listing;
 ghost use Rattle.listing_text.specs.ListingText.{counts_of, listing_of};
-ghost use Rattle.listing_text.specs.Forms.{IsFormed, MeansListing};
+ghost use Rattle.listing_text.specs.Forms.{IsFormed, MeansListing, IsOfFile, found_of};
+ghost use Rattle.listing_text.specs.declared.listing.ListedCell.{ListedCell};
 ghost use Rattle.listing_text.specs.Writing.{listing_text};
 ghost use Rattle.int_vectors.specs.Vectors.{Each};
 
@@ -61,3 +64,11 @@ pub fn written_listing_reads_back(file: &LiftFile, cells: &[FoundCell])
 {
     let _dimension = file.dim();
 }
+
+/// What `read_listing` answers is in form: a file that keeps its limits, and cells of its points,
+/// each with as many numbers as the dimension over a denominator of at least 1.
+pub fn read_listing_is_formed()
+    ensures valid { (bytes : List ℕ) (file : File) (cells : List ListedCell) → listing_of bytes ≡ Ok (file, cells) → IsValidFile file }
+    ensures formed { (bytes : List ℕ) (file : File) (cells : List ListedCell) → listing_of bytes ≡ Ok (file, cells) → Each cells (λ x. IsFormed (counts_of file) (found_of x)) }
+    ensures of_file { (bytes : List ℕ) (file : File) (cells : List ListedCell) → listing_of bytes ≡ Ok (file, cells) → Each cells (IsOfFile file) }
+{}

@@ -1,0 +1,181 @@
+-- What is read as a listing is in form.
+use Rattle.std.proofs.Common.{◌≡◌, ℕ, ◌-◌, ◌^◌, ◌<◌, ◌≤◌, Bool, true, false, cond, ℤ, pos, neg_ℤ, List, [], ◌∷◌, ◌++◌, map, length, Option, Ok, Err, refl, sym, subst, ◌∙◌, append_assoc, arith, length-append}
+use Rattle.std.specs.Prelude.{codes, nat_lt, slice_index_or, unsigned_abs}
+use Rattle.std.proofs.lemmas.Bool.Decides.{Decides-ltb}
+use Rattle.std.proofs.lemmas.Int.{ints}
+use Rattle.std.proofs.lemmas.List.{length-map}
+use Rattle.int_vectors.specs.Vectors.{Each}
+use Rattle.cayley.specs.Problems.{Version, version1, Problem}
+use Rattle.cayley.specs.Cells.{Cell, IsOf, EachPair}
+use Rattle.cayley.specs.Files.{File, FilePoint, resting}
+use Rattle.cayley.specs.Valid.{IsValidFile}
+use Rattle.cayley.proofs.PlainProblems.{plain_is}
+use Rattle.cayley.proofs.Lists.{each_weaker}
+use Rattle.line_text.specs.Lines.{Row, lines_of, end_line_of}
+use Rattle.support_text.specs.declared.fault.Kind.TheVariants.{Header, Count, Number, Range}
+use Rattle.support_text.specs.declared.fault.FormatFault.{FormatFault}
+use Rattle.support_text.specs.Faults.{Reading, ◌>>=◌, fault, series}
+use Rattle.support_text.specs.Words.{Text, word, number, nothing_more, next_line}
+use Rattle.support_text.specs.ProblemText.{header_line, dim_line, supports, ending, end_line, problem_at, problem_of, no_line}
+use Rattle.support_text.proofs.Series.{bind_ok, ok_is}
+use Rattle.support_text.proofs.Kept.{KeepsEach, series_all, each_of, next_line_ok, number_within}
+use Rattle.support_text.proofs.ValidFiles.{dim_within, supports_within, ending_within, file_within}
+use Rattle.listing_text.specs.declared.listing.ListedCell.{ListedCell}
+use Rattle.listing_text.specs.ListingText.{Listed, cells_line, pair, pair_at, normal_entry, cell_line, cell_at, cells_at, counts_of, listing_of}
+use Rattle.listing_text.specs.Forms.{IsCellOf, IsEntry, IsFormed, found_of, IsOfFile}
+use Rattle.listing_text.proofs.ListingBack.{at_seam}
+
+-- ---- the file
+
+header_is : (line : ℕ) (ws : List Text) (v : Version) → header_line line ws ≡ Ok v → v ≡ version1
+unfolding header_line
+header_is line ws v e =
+    let a = bind_ok (word (codes "mixedcells") Header line ws) (λ one. word (codes "1") Header line one >>= λ rest. nothing_more Header line rest >>= λ ended. Ok version1) v e in
+    let b = bind_ok (word (codes "1") Header line a.0) (λ rest. nothing_more Header line rest >>= λ ended. Ok version1) v a.2 in
+    let c = bind_ok (nothing_more Header line b.0) (λ ended. Ok version1) v b.2 in
+    sym (ok_is version1 v c.2)
+
+abbrev file_of : Version → ℕ → List (List FilePoint) → Option (List (List ℤ)) → File
+file_of version n points starts = record { version = version; dimension = n; supports = points; starts = starts }
+
+problem_valid : (end : ℕ) (rows : List Row) (x : File × List Row) → problem_at end rows ≡ Ok x → IsValidFile x.0
+unfolding problem_at
+problem_valid end rows x e =
+    let a = bind_ok (next_line header_line end rows) (λ version. next_line dim_line end version.1 >>= λ n. supports n.0 end n.1 >>= λ points. ending n.0 end points.1 >>= λ starts. Ok (file_of version.0 n.0 points.0 starts.0, starts.1)) x e in
+    let b = bind_ok (next_line dim_line end a.0.1) (λ n. supports n.0 end n.1 >>= λ points. ending n.0 end points.1 >>= λ starts. Ok (file_of a.0.0 n.0 points.0 starts.0, starts.1)) x a.2 in
+    let c = bind_ok (supports b.0.0 end b.0.1) (λ points. ending b.0.0 end points.1 >>= λ starts. Ok (file_of a.0.0 b.0.0 points.0 starts.0, starts.1)) x b.2 in
+    let d = bind_ok (ending b.0.0 end c.0.1) (λ starts. Ok (file_of a.0.0 b.0.0 c.0.0 starts.0, starts.1)) x c.2 in
+    let h = next_line_ok header_line end rows a.0 a.1 in
+    let version = header_is h.0 h.1 a.0.0 h.2 in
+    let dim = dim_within end a.0.1 b.0 b.1 in
+    let valid = file_within b.0.0 c.0.0 d.0.0 dim (supports_within b.0.0 end b.0.1 c.0 c.1) (ending_within b.0.0 end c.0.1 d.0 dim.0 d.1) in
+    let made : File × List Row = (file_of a.0.0 b.0.0 c.0.0 d.0.0, d.0.1) in
+    subst (λ (y : File × List Row). IsValidFile y.0) (ok_is made x d.2)
+    (subst (λ (v : Version). IsValidFile (file_of v b.0.0 c.0.0 d.0.0)) (sym version) valid)
+
+-- a file that some bytes mean is valid
+pub meant_valid : (bytes : List ℕ) (file : File) → problem_of bytes ≡ Ok file → IsValidFile file
+unfolding problem_of
+meant_valid bytes file e =
+    let a = bind_ok (problem_at (end_line_of bytes) (lines_of bytes)) (λ (x : File × List Row). no_line x.1 >>= λ ended. Ok x.0) file e in
+    let b = bind_ok (no_line a.0.1) (λ ended. Ok a.0.0) file a.2 in
+    subst IsValidFile (ok_is a.0.0 file b.2) (problem_valid (end_line_of bytes) (lines_of bytes) a.0 a.1)
+
+-- ---- pairs
+
+guarded : {A : Type 0} (b : Bool) (f : FormatFault) (x y : A) → cond b (Ok x) (Err f) ≡ Ok y → (b ≡ true) × (x ≡ y)
+guarded true f x y e = (refl, cc)
+guarded false f x y e = absurd cc
+
+abbrev IsPairTo : ℕ → ℕ × ℕ → Type 0
+IsPairTo m x = (1 ≤ x.0) × (x.0 < x.1) × (x.1 ≤ m)
+
+pair_within : (m line : ℕ) (ws : List Text) (x : (ℕ × ℕ) × List Text) → pair m line ws ≡ Ok x → IsPairTo m x.0
+unfolding pair
+pair_within m line ws x e =
+    let last : ℕ → ℕ → List Text → Reading ((ℕ × ℕ) × List Text) = λ i k rest. cond (nat_lt i k) (Ok ((i, k), rest)) (Err (fault line Range)) in
+    let a = bind_ok (number (pos 1) (pos m) Number Range line ws) (λ first. number (pos 1) (pos m) Number Range line first.1 >>= λ second. last (unsigned_abs first.0) (unsigned_abs second.0) second.1) x e in
+    let b = bind_ok (number (pos 1) (pos m) Number Range line a.0.1) (λ second. last (unsigned_abs a.0.0) (unsigned_abs second.0) second.1) x a.2 in
+    let made : (ℕ × ℕ) × List Text = ((unsigned_abs a.0.0, unsigned_abs b.0.0), b.0.1) in
+    let g = guarded (nat_lt (unsigned_abs a.0.0) (unsigned_abs b.0.0)) (fault line Range) made x b.2 in
+    let first = number_within (pos 1) (pos m) Number Range line ws a.0 a.1 in
+    let second = number_within (pos 1) (pos m) Number Range line a.0.1 b.0 b.1 in
+    let less : unsigned_abs a.0.0 < unsigned_abs b.0.0 = (Decides-ltb (unsigned_abs a.0.0) (unsigned_abs b.0.0)).0 g.0 in
+    subst (λ (y : (ℕ × ℕ) × List Text). IsPairTo m y.0) g.1 (omega (arith, ints), less, omega (arith, ints))
+
+-- a pair of the next support
+abbrev IsNextPair : List ℕ → Cell → ℕ × ℕ → Type 0
+IsNextPair counts before x = IsPairTo (slice_index_or counts (length before) 0) x
+
+cell_of_pairs : (done ms : List ℕ) (before ps : Cell) → length before ≡ length done → length ps ≡ length ms → KeepsEach (IsNextPair (done ++ ms)) before ps → IsCellOf ms ps
+cell_of_pairs done [] before [] size same h = tt
+cell_of_pairs done [] before (p ∷ ps) size same h = absurd (omega (arith, same))
+cell_of_pairs done (m ∷ ms) before [] size same h = absurd (omega (arith, same))
+cell_of_pairs done (m ∷ ms) before (p ∷ ps) size same h =
+    let here = subst (λ (k : ℕ). IsPairTo k p) (at_seam done m ms (length before) size) h.0 in
+    let regrouped : (done ++ m ∷ []) ++ ms ≡ done ++ m ∷ ms = append_assoc done (m ∷ []) ms in
+    let longer : length (before ++ p ∷ []) ≡ length (done ++ m ∷ []) = omega (arith, length-append before (p ∷ []), length-append done (m ∷ []), size) in
+    let others = cell_of_pairs (done ++ m ∷ []) ms (before ++ p ∷ []) ps longer (omega (arith, same)) (subst (λ (l : List ℕ). KeepsEach (IsNextPair l) (before ++ p ∷ []) ps) (sym regrouped) h.1) in
+    (here.0, here.1, here.2, others)
+
+-- ---- cell lines
+
+abbrev largest : ℤ
+largest = pos (2 ^ 127 - 1)
+
+abbrev listed : ℕ → Cell → List ℤ → ℤ → ListedCell
+listed line cell v den = record { line = line; cell = cell; normal = record { v = v; den = den } }
+
+cell_line_formed : (counts : List ℕ) (line : ℕ) (ws : List Text) (x : ListedCell) → cell_line counts line ws ≡ Ok x → IsFormed counts (found_of x)
+unfolding cell_line
+cell_line_formed counts line ws x e =
+    let n = length counts in
+    let last : Cell → List ℤ → ℤ × List Text → Reading ListedCell = λ cell v over. nothing_more Number line over.1 >>= λ ended. Ok (listed line cell v over.0) in
+    let numbers : Cell → List Text → Reading ListedCell = λ cell rest. series n (normal_entry line) [] rest >>= λ normal. word (codes "/") Number line normal.1 >>= λ slash. number (pos 1) largest Number Range line slash >>= λ over. last cell normal.0 over in
+    let a = bind_ok (word (codes "cell") Count line ws) (λ first. series n (pair_at counts line) [] first >>= λ cell. word (codes ":") Number line cell.1 >>= λ colon. numbers cell.0 colon) x e in
+    let b = bind_ok (series n (pair_at counts line) [] a.0) (λ cell. word (codes ":") Number line cell.1 >>= λ colon. numbers cell.0 colon) x a.2 in
+    let c = bind_ok (word (codes ":") Number line b.0.1) (λ colon. numbers b.0.0 colon) x b.2 in
+    let d = bind_ok (series n (normal_entry line) [] c.0) (λ normal. word (codes "/") Number line normal.1 >>= λ slash. number (pos 1) largest Number Range line slash >>= λ over. last b.0.0 normal.0 over) x c.2 in
+    let f = bind_ok (word (codes "/") Number line d.0.1) (λ slash. number (pos 1) largest Number Range line slash >>= λ over. last b.0.0 d.0.0 over) x d.2 in
+    let g = bind_ok (number (pos 1) largest Number Range line f.0) (λ over. last b.0.0 d.0.0 over) x f.2 in
+    let h = bind_ok (nothing_more Number line g.0.1) (λ ended. Ok (listed line b.0.0 d.0.0 g.0.0)) x g.2 in
+    let pairs = series_all (IsNextPair counts) (pair_at counts line) (λ before s y k. pair_within (slice_index_or counts (length before) 0) line s y k) n a.0 b.0 b.1 in
+    let entries = series_all (λ before z. IsEntry z) (normal_entry line) (λ before s y k. number_within (neg_ℤ largest) largest Number Range line s y k) n c.0 d.0 d.1 in
+    let formed : IsFormed counts (found_of (listed line b.0.0 d.0.0 g.0.0)) = record {
+      cell = cell_of_pairs [] counts [] b.0.0 refl pairs.0 pairs.1;
+      size = entries.0;
+      entries = each_of IsEntry (λ before z. IsEntry z) (λ before z k. k) [] d.0.0 entries.1;
+      den = number_within (pos 1) largest Number Range line f.0 g.0 g.1;
+    } in
+    subst (λ (y : ListedCell). IsFormed counts (found_of y)) (ok_is (listed line b.0.0 d.0.0 g.0.0) x h.2) formed
+
+cells_formed : (counts : List ℕ) (end : ℕ) (rows : List Row) (xs : List ListedCell) → cells_at counts end rows ≡ Ok xs → Each xs (λ y. IsFormed counts (found_of y))
+unfolding cells_at
+cells_formed counts end rows xs e =
+    let a = bind_ok (next_line cells_line end rows) (λ count. series count.0 (cell_at counts end) [] count.1 >>= λ cells. next_line end_line end cells.1 >>= λ last. no_line last.1 >>= λ ended. Ok cells.0) xs e in
+    let b = bind_ok (series a.0.0 (cell_at counts end) [] a.0.1) (λ cells. next_line end_line end cells.1 >>= λ last. no_line last.1 >>= λ ended. Ok cells.0) xs a.2 in
+    let c = bind_ok (next_line end_line end b.0.1) (λ last. no_line last.1 >>= λ ended. Ok b.0.0) xs b.2 in
+    let d = bind_ok (no_line c.0.1) (λ ended. Ok b.0.0) xs c.2 in
+    let r = series_all (λ before y. IsFormed counts (found_of y)) (cell_at counts end)
+    (λ before s y h. let p = next_line_ok (cell_line counts) end s y h in cell_line_formed counts p.0 p.1 y.0 p.2) a.0.0 a.0.1 b.0 b.1 in
+    subst (λ (ys : List ListedCell). Each ys (λ y. IsFormed counts (found_of y))) (ok_is b.0.0 xs d.2)
+    (each_of (λ y. IsFormed counts (found_of y)) (λ before y. IsFormed counts (found_of y)) (λ before y h. h) [] b.0.0 r.1)
+
+-- ---- the listing
+
+-- the file of a listing is valid, and its cells are in form
+pub listing_formed : (bytes : List ℕ) (file : File) (cells : List ListedCell) → listing_of bytes ≡ Ok (file, cells) → IsValidFile file × Each cells (λ x. IsFormed (counts_of file) (found_of x))
+unfolding listing_of
+listing_formed bytes file cells e =
+    let end = end_line_of bytes in
+    let whole : Listed = (file, cells) in
+    let a = bind_ok (problem_at end (lines_of bytes)) (λ (x : File × List Row). cells_at (counts_of x.0) end x.1 >>= λ found. Ok (x.0, found)) whole e in
+    let b = bind_ok (cells_at (counts_of a.0.0) end a.0.1) (λ found. Ok (a.0.0, found)) whole a.2 in
+    let made : Listed = (a.0.0, b.0) in
+    subst (λ (y : Listed). IsValidFile y.0 × Each y.1 (λ x. IsFormed (counts_of y.0) (found_of x))) (ok_is made whole b.2)
+    (problem_valid end (lines_of bytes) a.0 a.1, cells_formed (counts_of a.0.0) end a.0.1 b.0 b.1)
+
+-- ---- the problem of the file's points
+
+pairs_of_file : (supports : List (List FilePoint)) (cell : Cell) → IsCellOf (map length supports) cell → EachPair (map (map resting) supports) cell (λ s a b. (1 ≤ a) × (a < b) × (b ≤ length s))
+pairs_of_file [] [] h = tt
+pairs_of_file [] (p ∷ cell) h = absurd h
+pairs_of_file (s ∷ supports) [] h = absurd h
+pairs_of_file (s ∷ supports) (p ∷ cell) h =
+    let size : length (map resting s) ≡ length s = length-map s resting in
+    ((h.0, h.1, subst (λ (k : ℕ). p.1 ≤ k) (sym size) h.2), pairs_of_file supports cell h.3)
+
+formed_of : (file : File) → IsValidFile file → (x : ListedCell) → IsFormed (counts_of file) (found_of x) → IsOfFile file x
+formed_of file valid x formed =
+    let size : length (counts_of file) ≡ length file.supports = length-map file.supports length in
+    let low = formed.den.0 in (
+      subst (λ (p : Problem). IsOf p x.cell) (plain_is file valid.version) (pairs_of_file file.supports x.cell formed.cell),
+      formed.size ∙ size ∙ valid.shape.supports,
+      omega (arith, ints, low),
+    )
+
+-- a listing's cells are of its file
+pub listing_of_file : (bytes : List ℕ) (file : File) (cells : List ListedCell) → listing_of bytes ≡ Ok (file, cells) → Each cells (IsOfFile file)
+listing_of_file bytes file cells e =
+    let f = listing_formed bytes file cells e in
+    each_weaker (λ x. IsFormed (counts_of file) (found_of x)) (IsOfFile file) cells (λ x h. formed_of file f.0 x h) f.1
