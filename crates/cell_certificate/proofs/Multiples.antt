@@ -47,7 +47,7 @@ multiple_is d j (x ∷ ps) (y ∷ v) p e =
         let n : pos d ≢ pos 0 = λ z. omega (arith, ints, p, z) in
         mul_cancel x (pos j *ℤ y) (pos d) n (*ℤ_comm x (pos d) ∙ h ∙ ap (λ z. z *ℤ y) (sym (pos-*ℤ-pos d j)) ∙ turn (pos d) (pos j) y)
 
-less_fits : (j : ℕ) (z : ℤ) → 0 < j → FitsWhole (pos j *ℤ z) → FitsWhole z
+pub less_fits : (j : ℕ) (z : ℤ) → 0 < j → FitsWhole (pos j *ℤ z) → FitsWhole z
 less_fits j z p f = below_product j (unsigned_abs z) p (subst (λ n. n < 2 ^ 127) (unsigned_abs-mul (pos j) z) f)
 
 dot_less : (j : ℕ) (s : ℤ) (xs ys : List ℤ) → 0 < j → FitsDot (pos j *ℤ s) xs (scale (pos j) ys) → FitsDot s xs ys

@@ -1,11 +1,13 @@
 -- where the working of a mixed cell fits, so do the sums of its further points under its normal in lowest terms
-use Rattle.std.proofs.Common.{◌≡◌, ℕ, zero, suc, ◌+◌, ◌*◌, ◌<◌, ◌/◌, List, [], ◌∷◌, ◌++◌, length, arith, refl, sym, ap, subst, subst₂, ◌∙◌, ◌<ℤ◌, unsigned_abs, Result, Ok, Err}
+use Rattle.std.proofs.Common.{◌≡◌, ℕ, zero, suc, ◌+◌, ◌*◌, ◌<◌, ◌/◌, List, [], ◌∷◌, ◌++◌, length, arith, refl, sym, ap, subst, subst₂, ◌∙◌, ◌<ℤ◌, unsigned_abs, Result, Ok, Err, lit<}
 use Rattle.std.proofs.lemmas.Int.{ints}
-use Rattle.std.proofs.Math.IntN.{ℤ, pos, negsuc}
+use Rattle.std.proofs.Math.IntN.{ℤ, pos, negsuc, neg_ℤ, pos-*ℤ-pos}
+use Rattle.wide_int.specs.Whole.{FitsWhole}
+use Rattle.wide_int.specs.Divisors.{lcm_of}
 use Rattle.wide_int.proofs.CommonDivisors.{lcm_positive, quotient_times}
 use Rattle.wide_int.proofs.Signed.{abs_positive}
-use Rattle.int_vectors.specs.Vectors.{scale, at, IsOrthogonal}
-use Rattle.reduced_rows.specs.Denominators.{lcm_from, shares, zeros}
+use Rattle.int_vectors.specs.Vectors.{Each, scale, at, IsOrthogonal}
+use Rattle.reduced_rows.specs.Denominators.{lcm_from, FitsLcm, share, shares, FitsShares, zeros}
 use Rattle.reduced_rows.specs.Spans.{IsReduced, IsReducedOf}
 use Rattle.reduced_rows.specs.Steps.{elimination}
 use Rattle.reduced_rows.proofs.Orthogonal.{length-shares}
@@ -23,7 +25,7 @@ use Rattle.cell_certificate.specs.Written.{FitsWorking}
 use Rattle.cell_certificate.proofs.EdgeRows.{rows_count, rows_lengths, level_from, kernel_denies}
 use Rattle.cell_certificate.proofs.Levels.{HasNoRanks, level_to}
 use Rattle.cell_certificate.proofs.MixedLines.{first_entries}
-use Rattle.cell_certificate.proofs.Multiples.{divides_whole, multiple_is, rise_less}
+use Rattle.cell_certificate.proofs.Multiples.{divides_whole, multiple_is, less_fits, rise_less}
 use Rattle.cell_certificate.proofs.Together.{pairs_map}
 
 lcm_up : (n j l : ℕ) (rows : List (List ℤ)) → IsReduced n j rows → 0 < l → 0 < lcm_from j l rows
@@ -41,6 +43,30 @@ solved n rows made red =
     let s = column_solves n 0 rows made red in
     let e : n + 0 ≡ n = omega arith in
     subst (λ l. IsOrthogonal rows (l ++ (pos (lcm_from 0 1 made) ∷ []))) (no_zeros (shares (n + 0) 0 (lcm_from 0 1 made) made) ∙ ap (λ k. shares k 0 (lcm_from 0 1 made) made) e) s
+
+-- the common denominator of the reduced rows and their shares of the last column fit
+abbrev pub FitsNumbers : ℕ → List (List ℤ) → Type 0
+FitsNumbers n made = FitsLcm 0 1 made × FitsShares n 0 (lcm_from 0 1 made) made
+
+lcm_fits : (j l : ℕ) (rows : List (List ℤ)) → FitsWhole (pos l) → FitsLcm j l rows → FitsWhole (pos (lcm_from j l rows))
+unfolding lcm_from FitsLcm
+lcm_fits j l [] f h = f
+lcm_fits j l (row ∷ rows) f h = lcm_fits (suc j) (lcm_of l (unsigned_abs (at row j))) rows h.0 h.1
+
+turned_fits : (z : ℤ) → FitsWhole z → FitsWhole (neg_ℤ z)
+turned_fits z f = omega (arith, ints, f)
+
+shares_fit : (k j l : ℕ) (rows : List (List ℤ)) → FitsShares k j l rows → Each (shares k j l rows) FitsWhole
+unfolding shares FitsShares
+shares_fit k j l [] h = tt
+shares_fit k j l (row ∷ rows) h = (turned_fits (share k j l row) h.0, shares_fit k (suc j) l rows h.1)
+
+entries_less : (j : ℕ) (v : List ℤ) → 0 < j → Each (scale (pos j) v) FitsWhole → Each v FitsWhole
+entries_less j [] p h = tt
+entries_less j (x ∷ v) p h = (less_fits j x p h.0, entries_less j v p h.1)
+
+times_turned : (d j : ℕ) → d * j ≡ j * d
+times_turned d j = omega arith
 
 module _ (p : Problem) (cell : Cell) (well : IsProblem p) (even : HasNoRanks p.supports) (of : IsOf p cell) (ind : IsIndependent p cell)
     (d : ℕ) (v : List ℤ) (long : length v ≡ p.dimension) (up : 0 < d) (coprime : IsCoprime (pos d ∷ v)) (level : IsLevelAt p cell v (pos d)) where
@@ -82,6 +108,18 @@ module _ (p : Problem) (cell : Cell) (well : IsProblem p) (even : HasNoRanks p.s
         from zero e = absurd (let h = l_up in omega (arith, h, e))
         from (suc j) e = omega arith
 
+    -- the numbers of the reduced rows' normal are a multiple of those in lowest terms
+    reduced_multiple : (ps ≡ scale (pos j) v) × (l ≡ d * j) × (0 < j)
+    reduced_multiple = (multiple_is d j ps v up (proportion ∙ ap (λ n. scale (pos n) v) l_is), l_is, j_up)
+
+    reduced_entries : FitsNumbers p.dimension made → FitsWhole (pos d) × Each v FitsWhole
+    reduced_entries f =
+        let m = reduced_multiple in
+        let over = subst (λ n. FitsWhole (pos n)) m.1 (lcm_fits 0 1 made (lit< tt) f.0) in (
+          less_fits j (pos d) m.2 (subst FitsWhole (ap pos (times_turned d j) ∙ sym (pos-*ℤ-pos j d)) over),
+          entries_less j v m.2 (subst (λ xs. Each xs FitsWhole) m.0 (shares_fit p.dimension 0 l made f.1)),
+        )
+
     pub reduced_further : FitsFurther p cell ps (pos l) → FitsFurther p cell v (pos d)
     reduced_further f =
         let e = multiple_is d j ps v up (proportion ∙ ap (λ n. scale (pos n) v) l_is) in
@@ -96,6 +134,18 @@ module _ (p : Problem) (cell : Cell) (well : IsProblem p) (even : HasNoRanks p.s
       let m = rows_lengths p cell well of in
       absurd (kernel_denies p cell well of kernel (kernel_means_it p.dimension m.0 (edge_rows p cell) kernel (rows_count p cell well of) m.2 e) ind)
 
+  entries_by_result : (r : Result (List (List ℤ)) (List ℤ)) → elimination p.dimension (edge_rows p cell) ≡ r
+      → ((made : List (List ℤ)) → elimination p.dimension (edge_rows p cell) ≡ Ok made → FitsNumbers p.dimension made) → FitsWhole (pos d) × Each v FitsWhole
+  entries_by_result (Ok made) e f =
+      let m = rows_lengths p cell well of in
+      reduced_entries made (reduced_means p.dimension m.0 (edge_rows p cell) made (rows_count p cell well of) m.2 e) (f made e)
+  entries_by_result (Err kernel) e f =
+      let m = rows_lengths p cell well of in
+      absurd (kernel_denies p cell well of kernel (kernel_means_it p.dimension m.0 (edge_rows p cell) kernel (rows_count p cell well of) m.2 e) ind)
+
+  natural_entries : ((made : List (List ℤ)) → elimination p.dimension (edge_rows p cell) ≡ Ok made → FitsNumbers p.dimension made) → FitsWhole (pos d) × Each v FitsWhole
+  natural_entries f = entries_by_result (elimination p.dimension (edge_rows p cell)) refl f
+
   natural_further : FitsWorking p cell → FitsFurther p cell v (pos d)
   natural_further w = by_result (elimination p.dimension (edge_rows p cell)) refl w
 
@@ -103,3 +153,10 @@ pub further_fits : (p : Problem) (cell : Cell) → IsProblem p → HasNoRanks p.
     → (den : ℤ) (v : List ℤ) → length v ≡ p.dimension → pos 0 <ℤ den → IsCoprime (den ∷ v) → IsLevelAt p cell v den → FitsWorking p cell → FitsFurther p cell v den
 further_fits p cell well even of ind (pos d) v long h coprime level w = natural_further p cell well even of ind d v long (omega (arith, ints, h)) coprime level w
 further_fits p cell well even of ind (negsuc d) v long h coprime level w = absurd (omega (arith, ints, h))
+
+-- where the common denominator and the shares fit, so do the numbers of the normal in lowest terms
+pub entries_fit : (p : Problem) (cell : Cell) → IsProblem p → HasNoRanks p.supports → IsOf p cell → IsIndependent p cell
+    → (den : ℤ) (v : List ℤ) → length v ≡ p.dimension → pos 0 <ℤ den → IsCoprime (den ∷ v) → IsLevelAt p cell v den
+    → ((made : List (List ℤ)) → elimination p.dimension (edge_rows p cell) ≡ Ok made → FitsNumbers p.dimension made) → FitsWhole den × Each v FitsWhole
+entries_fit p cell well even of ind (pos d) v long h coprime level f = natural_entries p cell well even of ind d v long (omega (arith, ints, h)) coprime level f
+entries_fit p cell well even of ind (negsuc d) v long h coprime level f = absurd (omega (arith, ints, h))

@@ -18,6 +18,8 @@ use Rattle.mixedcells_cli.specs.Words.{Means, HasMeaning}
 use Rattle.mixedcells_cli.specs.Outcomes.{status_of}
 use Rattle.mixedcells_cli.specs.Answers.{limit, IsListReply, IsPlainReply, IsReply, TellsFault}
 use Rattle.mixedcells_cli.specs.Runs.{IsAnswer, IsInput, IsCalledFor, IsFree}
+use Rattle.mixedcells_cli.proofs.Readings.{ok_once, err_once, not_both}
+use Rattle.mixedcells_cli.proofs.Checks.{one_check_reply}
 
 three_ways : {P : Type 0} (m n : ℕ) → (m < n → P) → (m ≡ n → P) → (n < m → P) → P
 three_ways m n f g h = elim (dec_lt m n) [ yes p ↦ f p | no q ↦ elim (ℕ_discrete m n) [ yes e ↦ g e | no r ↦ h (omega arith) ] ]
@@ -78,18 +80,6 @@ one_list_reply file (variant.OverflowCell cell) variant.OutOfMemory t u h k = ab
 one_list_reply file (variant.OverflowCell cell) variant.TooLong t u h k = absurd k
 one_list_reply file (variant.OverflowCell cell) (variant.TooMany choices') t u h k = absurd (h.1 k.1)
 
-ok_once : {A E : Type 0} (r : Result A E) (x y : A) → r ≡ Ok x → r ≡ Ok y → x ≡ y
-ok_once (Ok z) x y e f = cc
-ok_once (Err z) x y e f = absurd cc
-
-err_once : {A E : Type 0} (r : Result A E) (x y : E) → r ≡ Err x → r ≡ Err y → x ≡ y
-err_once (Ok z) x y e f = absurd cc
-err_once (Err z) x y e f = cc
-
-not_both : {A E : Type 0} (r : Result A E) (x : A) (y : E) → r ≡ Ok x → r ≡ Err y → ⊥
-not_both (Ok z) x y e f = cc
-not_both (Err z) x y e f = cc
-
 one_plain_reply : (bytes : List ℕ) (o q : Outcome) (t u : List ℕ) → IsPlainReply bytes o t → IsPlainReply bytes q u → o ≡ q
 one_plain_reply bytes o q t u (inl h) (inl k) = one_list_reply h.0 o q t u h.2 (subst (λ f. IsListReply f q u) (ok_once (problem_of bytes) k.0 h.0 k.1 h.1) k.2)
 one_plain_reply bytes o q t u (inl h) (inr k) = absurd (not_both (problem_of bytes) h.0 k.0 h.1 k.1)
@@ -99,6 +89,7 @@ one_plain_reply bytes o q t u (inr h) (inr k) =
 
 one_reply : (command : Command) (bytes : List ℕ) (o q : Outcome) (t u : List ℕ) → IsReply command bytes o t → IsReply command bytes q u → o ≡ q
 one_reply verb.Plain bytes o q t u h k = one_plain_reply bytes o q t u h k
+one_reply verb.Check bytes o q t u h k = one_check_reply bytes o q t u h k
 
 one_answer : (command : Command) (bytes : List ℕ) (o q : Outcome) (t u : List ℕ) → IsAnswer command bytes o t → IsAnswer command bytes q u → o ≡ q
 one_answer command bytes o q t u (inl h) (inl k) = h.1 ∙ sym k.1
@@ -106,8 +97,32 @@ one_answer command bytes o q t u (inl h) (inr k) = absurd (let a = h.0 in let b 
 one_answer command bytes o q t u (inr h) (inl k) = absurd (let a = h.0 in let b = k.0 in omega (arith, a, b))
 one_answer command bytes o q t u (inr h) (inr k) = one_reply command bytes o q t u h.1 k.1
 
+abbrev first_byte : List (List ℕ) → ℕ
+first_byte [] = 0
+first_byte ([] ∷ words) = 0
+first_byte ((b ∷ bytes) ∷ words) = b
+
 one_meaning : (words : List (List ℕ)) (c d : Command) → Means words c → Means words d → c ≡ d
 one_meaning words verb.Plain verb.Plain h k = refl
+one_meaning words verb.Plain verb.Check h k = absurd (let e = ap first_byte (sym h ∙ k) in omega (arith, e))
+one_meaning words verb.Check verb.Plain h k = absurd (let e = ap first_byte (sym h ∙ k) in omega (arith, e))
+one_meaning words verb.Check verb.Check h k = refl
+
+-- what is called for is an answer of the command that the words mean
+pub answer_of : (words : List (List ℕ)) (bytes : List ℕ) (command : Command) (o : Outcome) (t : List ℕ) → Means words command → IsCalledFor words (Some bytes) o t → IsAnswer command bytes o t
+answer_of words bytes command o t means (inl h) = absurd (h.0 (command, means))
+answer_of words bytes command o t means (inr h) =
+    subst (λ c. IsAnswer c bytes o t) (one_meaning words h.0 command h.2 means) (subst (λ b. IsAnswer h.0 b o t) (sym h.3) h.4)
+
+-- an answer on bytes that aren't too many is a reply
+pub reply_of : (command : Command) (bytes : List ℕ) (o : Outcome) (t : List ℕ) → length bytes ≤ limit → IsAnswer command bytes o t → IsReply command bytes o t
+reply_of command bytes o t short (inl l) = absurd (let a = l.0 in omega (arith, a, short))
+reply_of command bytes o t short (inr r) = r.1
+
+-- an answer other than too long is a reply
+pub reply_not_long : (command : Command) (bytes : List ℕ) (o : Outcome) (t : List ℕ) → (status_of o ≡ 9 → ⊥) → IsAnswer command bytes o t → IsReply command bytes o t
+reply_not_long command bytes o t other (inl l) = absurd (other (ap status_of l.1))
+reply_not_long command bytes o t other (inr r) = r.1
 
 -- the words and known bytes call for one outcome
 pub one_called_for : (words : List (List ℕ)) (bytes : List ℕ) (o q : Outcome) (t u : List ℕ) → IsCalledFor words (Some bytes) o t → IsCalledFor words (Some bytes) q u → o ≡ q
@@ -122,7 +137,7 @@ not_free : (o : Outcome) → (status_of o ≡ 6 → ⊥) → (status_of o ≡ 7 
 not_free o a b c f = elim f [ inl e ↦ a (ap status_of e) | inr g ↦ elim g [ inl e ↦ b (ap status_of e) | inr e ↦ c (ap status_of e) ] ]
 
 -- an outcome is free or it isn't
-free_or : (o : Outcome) → IsFree o ⊎ ¬ (IsFree o)
+pub free_or : (o : Outcome) → IsFree o ⊎ ¬ (IsFree o)
 free_or variant.ReadFault = inl (inl refl)
 free_or variant.WriteFault = inl (inr (inl refl))
 free_or variant.OutOfMemory = inl (inr (inr refl))
@@ -162,13 +177,8 @@ plain_ok bytes file o t e many fit (inr h) = absurd (not_both (problem_of bytes)
 
 called_ok : (words : List (List ℕ)) (bytes : List ℕ) (file : File) (o : Outcome) (t : List ℕ) → length bytes ≤ limit → Means words verb.Plain → problem_of bytes ≡ Ok file
     → ¬ (HasTooMany (plain_problem file)) → AllFit (plain_problem file) → IsCalledFor words (Some bytes) o t → o ≡ variant.Ok
-called_ok words bytes file o t short means e many fit (inl h) = absurd (h.0 (verb.Plain, means))
-called_ok words bytes file o t short means e many fit (inr h) =
-    answered (subst (λ c. IsAnswer c bytes o t) (one_meaning words h.0 verb.Plain h.2 means) (subst (λ b. IsAnswer h.0 b o t) (sym h.3) h.4))
-  where
-    answered : IsAnswer verb.Plain bytes o t → o ≡ variant.Ok
-    answered (inl l) = absurd (let a = l.0 in omega (arith, a, short))
-    answered (inr r) = plain_ok bytes file o t e many fit r.1
+called_ok words bytes file o t short means e many fit h =
+    plain_ok bytes file o t e many fit (reply_of verb.Plain bytes o t short (answer_of words bytes verb.Plain o t means h))
 
 -- a file of few choices whose workings fit is listed, unless a free answer comes
 pub lists : (words : List (List ℕ)) (bytes : List ℕ) (file : File) (result : Outcome) → length bytes ≤ limit → Means words verb.Plain → problem_of bytes ≡ Ok file
@@ -186,13 +196,7 @@ plain_listing bytes t (inr h) = absurd (let e = ap status_of h.2.0 in omega (ari
 -- Ok of `plain` is the listing of the file
 listed : (words : List (List ℕ)) (bytes t : List ℕ) → Means words verb.Plain → IsCalledFor words (Some bytes) variant.Ok t
     → (file : File) × (problem_of bytes ≡ Ok file) × IsListingOf file t
-listed words bytes t means (inl h) = absurd (let e = ap status_of h.1 in omega (arith, e))
-listed words bytes t means (inr h) =
-    answered (subst (λ c. IsAnswer c bytes variant.Ok t) (one_meaning words h.0 verb.Plain h.2 means) (subst (λ b. IsAnswer h.0 b variant.Ok t) (sym h.3) h.4))
-  where
-    answered : IsAnswer verb.Plain bytes variant.Ok t → (file : File) × (problem_of bytes ≡ Ok file) × IsListingOf file t
-    answered (inl l) = absurd (let e = ap status_of l.1 in omega (arith, e))
-    answered (inr r) = plain_listing bytes t r.1
+listed words bytes t means h = plain_listing bytes t (reply_not_long verb.Plain bytes variant.Ok t (λ e. omega (arith, e)) (answer_of words bytes verb.Plain variant.Ok t means h))
 
 -- Ok isn't free
 pub ok_other : (result : Outcome) → result ≡ variant.Ok → ¬ (IsFree result)

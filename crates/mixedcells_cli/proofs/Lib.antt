@@ -1,3 +1,8 @@
 pub mod Ended
+pub mod Readings
+pub mod Checks
 pub mod Exact
 pub mod Listings
+pub mod Counted
+pub mod Spared
+pub mod Judged

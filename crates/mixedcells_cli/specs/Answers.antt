@@ -3,14 +3,17 @@ use Rattle.std.specs.Prelude.{◌≡◌, ◌⊎◌, ℕ, List, Ok, Err}
 use Rattle.cayley.specs.Files.{File, plain_problem}
 use Rattle.support_text.specs.declared.fault.FormatFault.{FormatFault}
 use Rattle.support_text.specs.ProblemText.{problem_of}
+use Rattle.listing_text.specs.declared.listing.Listing.{Listing}
+use Rattle.listing_text.specs.ListingText.{listing_of}
 use Rattle.listing_text.specs.Listings.{IsListingOf}
+use Rattle.cell_certificate.specs.Answers.{IsRight, IsWrong, IsTooLarge}
 use Rattle.plain_lister.specs.Choices.{HasTooMany, IsExcess}
 use Rattle.plain_lister.specs.Lists.{AllFit, IsFirstUnfit}
 use Rattle.mixedcells_cli.specs.declared.words.Command.{Command}
 use Rattle.mixedcells_cli.specs.declared.words.Command.TheVariants as verb
 use Rattle.mixedcells_cli.specs.declared.outcome.Outcome.{Outcome}
 use Rattle.mixedcells_cli.specs.declared.outcome.Outcome.TheVariants as variant
-use Rattle.mixedcells_cli.specs.Outcomes.{format_line, too_many_line, overflow_cell}
+use Rattle.mixedcells_cli.specs.Outcomes.{yes_line, format_line, no_line, overflow_line, too_many_line, overflow_cell}
 
 -- the longest input that is read
 abbrev pub limit : ℕ
@@ -40,6 +43,31 @@ IsPlainReply bytes outcome text =
     ((file : File) × (problem_of bytes ≡ Ok file) × IsListReply file outcome text)
     ⊎ ((fault : FormatFault) × (problem_of bytes ≡ Err fault) × TellsFault fault outcome text)
 
+-- what is said of a listing: every line passes, or the first that doesn't, with the reason or for a number that doesn't fit
+abbrev pub IsVerdictReply : Listing → Outcome → List ℕ → Type 0
+IsVerdictReply listing variant.Ok text = (text ≡ yes_line) × IsRight listing
+IsVerdictReply listing (variant.No line reason) text = (text ≡ no_line line reason) × IsWrong listing line reason
+IsVerdictReply listing (variant.OverflowLine line) text = (text ≡ overflow_line line) × IsTooLarge listing line
+IsVerdictReply listing variant.Usage text = ⊥
+IsVerdictReply listing (variant.Format line kind) text = ⊥
+IsVerdictReply listing (variant.OverflowCell cell) text = ⊥
+IsVerdictReply listing variant.ReadFault text = ⊥
+IsVerdictReply listing variant.WriteFault text = ⊥
+IsVerdictReply listing variant.OutOfMemory text = ⊥
+IsVerdictReply listing variant.TooLong text = ⊥
+IsVerdictReply listing (variant.TooMany choices) text = ⊥
+
+-- the bytes mean this listing
+abbrev pub IsListingText : List ℕ → Listing → Type 0
+IsListingText bytes listing = listing_of bytes ≡ Ok (listing.file, listing.cells.items)
+
+-- what `check` replies: what is said of the listing that the bytes mean, or their first fault
+abbrev pub IsCheckReply : List ℕ → Outcome → List ℕ → Type 0
+IsCheckReply bytes outcome text =
+    ((listing : Listing) × IsListingText bytes listing × IsVerdictReply listing outcome text)
+    ⊎ ((fault : FormatFault) × (listing_of bytes ≡ Err fault) × TellsFault fault outcome text)
+
 -- what a command replies on the bytes of its input
 abbrev pub IsReply : Command → List ℕ → Outcome → List ℕ → Type 0
 IsReply verb.Plain bytes outcome text = IsPlainReply bytes outcome text
+IsReply verb.Check bytes outcome text = IsCheckReply bytes outcome text

@@ -22,6 +22,9 @@ status_of (TooMany choices) = 10
 abbrev pub positions : Cell → List ℕ
 positions cell = flat_map (λ x. (codes " " ++ decimal x.0) ++ (codes " " ++ decimal x.1)) cell
 
+abbrev pub yes_line : List ℕ
+yes_line = codes "yes\n"
+
 abbrev pub format_line : ℕ → ℕ → List ℕ
 format_line line kind = codes "format: line " ++ (decimal line ++ (codes " kind " ++ (decimal kind ++ codes "\n")))
 

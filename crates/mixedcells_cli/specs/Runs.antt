@@ -1,13 +1,21 @@
 -- How a run ends, and what stands in the source and the sink then.
-use Rattle.std.specs.Prelude.{◌≡◌, ◌⊎◌, ◌<◌, ◌≤◌, ℕ, List, [], length, take, Option, Some, None}
+use Rattle.std.specs.Prelude.{◌≡◌, ◌⊎◌, ◌<◌, ◌≤◌, ℕ, List, [], length, take, Option, Some, None, Ok}
 use Rattle.std.specs.Io.KnownBytes.{Appends}
 use Rattle.edge_io.specs.Faults.{Rose}
+use Rattle.cayley.specs.Files.{File, plain_problem}
+use Rattle.cayley.specs.declared.found.FoundCell.{FoundCell}
+use Rattle.support_text.specs.ProblemText.{problem_of}
+use Rattle.listing_text.specs.declared.listing.Listing.{Listing}
+use Rattle.listing_text.specs.Listings.{AreMixedCells}
+use Rattle.listing_text.specs.Writing.{listing_text}
+use Rattle.cell_certificate.specs.Written.{IsOwnTooLarge}
+use Rattle.plain_lister.specs.Lists.{AllFit}
 use Rattle.mixedcells_cli.specs.declared.words.Command.{Command}
 use Rattle.mixedcells_cli.specs.declared.outcome.Outcome.{Outcome}
 use Rattle.mixedcells_cli.specs.declared.outcome.Outcome.TheVariants as variant
 use Rattle.mixedcells_cli.specs.Words.{Means, HasMeaning}
 use Rattle.mixedcells_cli.specs.Outcomes.{line_of}
-use Rattle.mixedcells_cli.specs.Answers.{limit, IsReply}
+use Rattle.mixedcells_cli.specs.Answers.{limit, IsListingText, IsReply}
 
 -- what a command answers on its whole input, and what it writes for that: the input is too long, or the command replies
 abbrev pub IsAnswer : Command → List ℕ → Outcome → List ℕ → Type 0
@@ -40,3 +48,19 @@ abbrev pub Finishes : Option (List ℕ) → Option (List ℕ) → ℕ → ℕ �
 Finishes old new before now text outcome result =
     ((result ≡ outcome) × Appends old new text)
     ⊎ ((result ≡ variant.WriteFault) × Rose before now × ((n : ℕ) × (n ≤ length text) × Appends old new (take n text)))
+
+-- every line of a listing passes, or one is refused for a reason
+abbrev pub IsVerdict : Outcome → Type 0
+IsVerdict outcome = (outcome ≡ variant.Ok) ⊎ ((line : ℕ) × (reason : ℕ) × (outcome ≡ variant.No line reason))
+
+-- the bytes are the listing of a file whose workings fit, as `plain` writes it, with no more cells than a listing can count
+abbrev pub IsWrittenListing : List ℕ → Type 0
+IsWrittenListing bytes = (input : List ℕ) × (file : File) × (found : List FoundCell)
+    × (problem_of input ≡ Ok file) × AllFit (plain_problem file) × AreMixedCells file found
+    × (length found ≤ 4294967295) × (bytes ≡ listing_text file found)
+
+-- every line passes, or the sum of a pair's own second point doesn't fit, or the listing is longer than what is read
+abbrev pub IsSpared : List ℕ → Outcome → Type 0
+IsSpared bytes outcome = (outcome ≡ variant.Ok)
+    ⊎ ((listing : Listing) × (line : ℕ) × IsListingText bytes listing × IsOwnTooLarge listing line × (outcome ≡ variant.OverflowLine line))
+    ⊎ ((limit < length bytes) × (outcome ≡ variant.TooLong))

@@ -1,12 +1,14 @@
 // What each command replies on the bytes of its input.
 ghost use Rattle.std.specs.Prelude.{◌≡◌, IfOk};
-ghost use Rattle.mixedcells_cli.specs.Answers.{IsReply, IsPlainReply, IsListReply, TellsFault};
+ghost use Rattle.cell_certificate.specs.Written.{AreListed};
+ghost use Rattle.mixedcells_cli.specs.Answers.{IsReply, IsPlainReply, IsListReply, IsCheckReply, IsVerdictReply, TellsFault};
 
-use crate::lines::{format_line, overflow_cell, too_many_line};
+use crate::lines::{format_line, no_line, overflow_cell, overflow_line, too_many_line, yes_line};
 use crate::outcome::Outcome;
 use crate::words::Command;
 use cayley::{LiftFile, Problem};
-use listing_text::write_listing;
+use cell_certificate::{CheckFault, Verdict};
+use listing_text::{Listing, read_listing, write_listing};
 use plain_lister::{PlainFault, plain_list};
 use std::alloc::Global;
 use support_text::{FormatFault, TextFault, read_problem};
@@ -25,6 +27,7 @@ pub fn answer(alloc: Global, command: Command, bytes: &[u8]) -> Result<Reply, Ou
 {
     match command {
         Command::Plain => plain(alloc, bytes),
+        Command::Check => check(alloc, bytes),
     }
 }
 
@@ -81,5 +84,47 @@ fn listing(alloc: Global, file: &LiftFile) -> Result<Reply, OutOfMemory>
             })
         }
         Err(PlainFault::OutOfMemory) => Err(OutOfMemory),
+    }
+}
+
+// What `check` replies.
+fn check(alloc: Global, bytes: &[u8]) -> Result<Reply, OutOfMemory>
+    ensures { IfOk result (λ r. IsCheckReply bytes.now r.outcome r.text.items) }
+{
+    match read_listing(alloc, bytes) {
+        Ok(listing) => verdict(alloc, &listing),
+        Err(TextFault::Format(fault)) => refusal(alloc, fault),
+        Err(TextFault::OutOfMemory) => Err(OutOfMemory),
+    }
+}
+
+// The reply on a listing.
+fn verdict(alloc: Global, listing: &Listing) -> Result<Reply, OutOfMemory>
+    requires { AreListed listing.now }
+    ensures { IfOk result (λ r. IsVerdictReply listing.now r.outcome r.text.items) }
+{
+    match cell_certificate::check(alloc, listing) {
+        Ok(Verdict::Yes) => {
+            let text = yes_line(alloc)?;
+            Ok(Reply {
+                outcome: Outcome::Ok,
+                text,
+            })
+        }
+        Ok(Verdict::No { line, reason }) => {
+            let text = no_line(alloc, line, reason)?;
+            Ok(Reply {
+                outcome: Outcome::No { line, reason },
+                text,
+            })
+        }
+        Err(CheckFault::Overflow { line }) => {
+            let text = overflow_line(alloc, line)?;
+            Ok(Reply {
+                outcome: Outcome::OverflowLine { line },
+                text,
+            })
+        }
+        Err(CheckFault::OutOfMemory) => Err(OutOfMemory),
     }
 }

@@ -4,11 +4,15 @@ ghost use Rattle.std.specs.Io.KnownBytes.{Appends, IsAtEnd};
 ghost use Rattle.edge_io.specs.Faults.{Rose};
 ghost use Rattle.cayley.specs.Files.{File, plain_problem};
 ghost use Rattle.support_text.specs.ProblemText.{problem_of};
+ghost use Rattle.listing_text.specs.declared.listing.Listing.{Listing};
 ghost use Rattle.listing_text.specs.Listings.{IsListingOf};
+ghost use Rattle.cell_certificate.specs.Answers.{IsTooLarge};
+ghost use Rattle.cell_certificate.specs.Written.{AreMixed};
 ghost use Rattle.plain_lister.specs.Choices.{HasTooMany};
 ghost use Rattle.plain_lister.specs.Lists.{AllFit};
 ghost use Rattle.mixedcells_cli.specs.Words.{Means, HasMeaning};
-ghost use Rattle.mixedcells_cli.specs.Runs.{IsInput, IsAnswer, IsCalledFor, IsCutOff, IsFree, Finishes};
+ghost use Rattle.mixedcells_cli.specs.Answers.{IsListingText};
+ghost use Rattle.mixedcells_cli.specs.Runs.{IsInput, IsAnswer, IsCalledFor, IsCutOff, IsFree, IsVerdict, IsWrittenListing, IsSpared, Finishes};
 
 use crate::outcome::Outcome;
 use crate::replies::{Reply, answer};
@@ -44,6 +48,19 @@ pub fn run_alone<S: Source, K: Sink>(
     ensures complete { (bytes : List ℕ) (file : File) → S.left source.old ≡ Some bytes → length bytes ≤ 16777216
         → Means (map string_bytes words.now) Command.Plain → problem_of bytes ≡ Ok file
         → ¬ (HasTooMany (plain_problem file)) → AllFit (plain_problem file) → (result ≡ Outcome.Ok) ⊎ IsFree result }
+    // `check` that ends Ok: the bytes are a listing of mixed cells, each once, in cell order, each with its normal in lowest terms.
+    ensures checked { (bytes : List ℕ) → S.left source.old ≡ Some bytes → Means (map string_bytes words.now) Command.Check → result ≡ Outcome.Ok
+        → (listing : Listing) × IsListingText bytes listing × AreMixed listing }
+    // A listing in which no number that is needed fails to fit is judged.
+    ensures judged { (bytes : List ℕ) (listing : Listing) → S.left source.old ≡ Some bytes → length bytes ≤ 16777216
+        → Means (map string_bytes words.now) Command.Check → IsListingText bytes listing → ((line : ℕ) → ¬ (IsTooLarge listing line))
+        → IsVerdict result ⊎ IsFree result }
+    // What `plain` that ends Ok has written is a written listing, of which the next clause speaks.
+    ensures written_listing { (bytes : List ℕ) → S.left source.old ≡ Some bytes → Means (map string_bytes words.now) Command.Plain → result ≡ Outcome.Ok
+        → (text : List ℕ) × IsWrittenListing text × Appends (K.held sink.old) (K.held sink.new) text }
+    // `check` never refuses a written listing for a reason, and for a number only at a pair's own second point.
+    ensures spares { (bytes : List ℕ) → S.left source.old ≡ Some bytes → Means (map string_bytes words.now) Command.Check → IsWrittenListing bytes
+        → IsSpared bytes result ⊎ IsFree result }
     ensures read_fault { result ≡ Outcome.ReadFault → Rose (S.faults source.old) (S.faults source.new) }
     // Words without a meaning are usage, and nothing is read for them.
     ensures usage { ¬ (HasMeaning (map string_bytes words.now)) → (result ≡ Outcome.Usage) ⊎ (result ≡ Outcome.WriteFault) }

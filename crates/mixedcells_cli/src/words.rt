@@ -6,6 +6,8 @@ ghost use Rattle.mixedcells_cli.specs.Words.{Means, HasMeaning};
 pub enum Command {
     /// `plain`: list the mixed cells of a problem file by trying every choice of pairs.
     Plain,
+    /// `check`: judge the cell lines of a listing, without trust in whoever wrote it.
+    Check,
 }
 
 /// The command that the words after the program's name mean, if they mean one.
@@ -17,6 +19,7 @@ pub fn command_of(words: &[String]) -> Option<Command>
     };
     match word.as_str() {
         "plain" => Some(Command::Plain),
+        "check" => Some(Command::Check),
         _ => None,
     }
 }

@@ -1,6 +1,7 @@
 use Rattle.std.proofs.Common.{inr, Some}
 use Rattle.mixedcells_cli.proofs.Ended.{usage_cut, usage_written}
 use Rattle.mixedcells_cli.proofs.Exact.{comes, lists, ended_listed, ok_other, known}
+use Rattle.mixedcells_cli.proofs.Judged.{checked, judged, spares, plain_spared}
 use Rattle.mixedcells_cli.proofs.top.run_alone.Goals as goal
 
 pub returns-in-Some-clause-written : goal.returns-in-Some-clause-written
@@ -26,6 +27,24 @@ returns-in-Some-clause-listing g c = λ bytes left means ok.
     let w = returns-in-Some-clause-written g c (ok_other _ ok) in
     let l = ended_listed _ _ bytes _ w.0 left means ok w.1 in
     (l.0, l.1, (w.0, l.2, w.2))
+
+pub returns-in-Some-clause-written_listing : goal.returns-in-Some-clause-written_listing
+returns-in-Some-clause-written_listing g c = λ bytes left means ok.
+    let w = returns-in-Some-clause-written g c (ok_other _ ok) in
+    (w.0, plain_spared _ _ bytes _ w.0 left means ok w.1, w.2)
+
+pub returns-in-Some-clause-checked : goal.returns-in-Some-clause-checked
+returns-in-Some-clause-checked g c = λ bytes left means ok.
+    let w = returns-in-Some-clause-written g c (ok_other _ ok) in
+    checked _ bytes means _ _ w.0 left ok w.1
+
+pub returns-in-Some-clause-judged : goal.returns-in-Some-clause-judged
+returns-in-Some-clause-judged g c = λ bytes listing left short means text fit.
+    judged _ bytes means listing _ short text fit (λ other. let w = returns-in-Some-clause-written g c other in (w.0, known _ _ bytes _ _ left w.1))
+
+pub returns-in-Some-clause-spares : goal.returns-in-Some-clause-spares
+returns-in-Some-clause-spares g c = λ bytes left means written.
+    spares _ bytes means written _ (λ other. let w = returns-in-Some-clause-written g c other in (w.0, known _ _ bytes _ _ left w.1))
 
 pub returns-in-None-clause-cut_off : goal.returns-in-None-clause-cut_off
 returns-in-None-clause-cut_off g c = usage_cut _ _ _ _ _ _ _ c.in-None.ensures.meaning c.finish.ensures.ends

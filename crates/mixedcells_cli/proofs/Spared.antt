@@ -1,0 +1,194 @@
+-- A listing as a lister wrote it is read back, and `check` spares it.
+use Rattle.std.proofs.Common.{◌≡◌, ℕ, suc, ◌-◌, ◌^◌, ◌<◌, ◌≤◌, ◌∙◌, ℤ, pos, negsuc, neg_ℤ, ◌≤ℤ◌, ◌<ℤ◌, List, [], ◌∷◌, map, length, Result, Ok, Err, refl, sym, ap, subst, arith, inl, inr}
+use Rattle.std.specs.Prelude.{Contains, unsigned_abs}
+use Rattle.std.proofs.lemmas.Int.{ints}
+use Rattle.std.proofs.lemmas.List.{length-map}
+use Rattle.wide_int.specs.Whole.{FitsWhole}
+use Rattle.int_vectors.specs.Vectors.{Each, at}
+use Rattle.cayley.specs.Times.{time_zero}
+use Rattle.cayley.specs.Problems.{Problem, Point, point_at}
+use Rattle.cayley.specs.Cells.{Cell, IsOf, EachPair, IsFurther, IsListOf, IsSorted}
+use Rattle.cayley.specs.Normals.{Normal, IsNormal}
+use Rattle.cayley.specs.Mixed.{IsAlive, IsMixedCell, IsLowestNormal, HasFirstEntries}
+use Rattle.cayley.specs.Files.{File, FilePoint, resting, plain_problem}
+use Rattle.cayley.specs.Valid.{IsValidFile}
+use Rattle.cayley.specs.declared.found.FoundCell.{FoundCell}
+use Rattle.cayley.proofs.CellNormals.{length-scale}
+use Rattle.cayley.proofs.Lists.{map_map, each_unmap, each_weaker}
+use Rattle.cayley.proofs.PlainProblems.{plain_is}
+use Rattle.support_text.specs.ProblemText.{problem_of}
+use Rattle.listing_text.specs.declared.listing.Listing.{Listing}
+use Rattle.listing_text.specs.declared.listing.ListedCell.{ListedCell}
+use Rattle.listing_text.specs.ListingText.{Listed, counts_of, listing_of}
+use Rattle.listing_text.specs.Forms.{IsCellOf, IsEntry, IsFormed, found_of}
+use Rattle.listing_text.specs.Listings.{AreMixedCells}
+use Rattle.listing_text.proofs.Formed.{meant_valid, listing_formed}
+use Rattle.listing_text.proofs.ListingBack.{listing_back}
+use Rattle.plain_lister.specs.Workings.{FitsWall, denominator, resting_part}
+use Rattle.plain_lister.specs.Workings as plain
+use Rattle.plain_lister.specs.Lists.{AllFit}
+use Rattle.cell_certificate.specs.Sums.{FitsAt}
+use Rattle.cell_certificate.specs.declared.verdict.Verdict.TheVariants.{Yes, No}
+use Rattle.cell_certificate.specs.declared.verdict.CheckFault.TheVariants.{Overflow, OutOfMemory}
+use Rattle.cell_certificate.specs.Answers.{Answer, HadMemory}
+use Rattle.cell_certificate.specs.Written as written
+use Rattle.cell_certificate.specs.Written.{IsWritten, SparesWritten}
+use Rattle.cell_certificate.proofs.Levels.{even_of}
+use Rattle.cell_certificate.proofs.LowestLevel.{lowest_level}
+use Rattle.cell_certificate.proofs.PlainPoints.{valid_of, own_points}
+use Rattle.cell_certificate.proofs.Together.{pairs_map}
+use Rattle.cell_certificate.proofs.WorkedSums.{entries_fit}
+use Rattle.cell_certificate.proofs.WrittenLines.{written_spared}
+use Rattle.mixedcells_cli.specs.declared.outcome.Outcome.{Outcome}
+use Rattle.mixedcells_cli.specs.declared.outcome.Outcome.TheVariants as variant
+use Rattle.mixedcells_cli.specs.Outcomes.{status_of}
+use Rattle.mixedcells_cli.specs.Answers.{IsPlainReply, IsListingText, IsCheckReply}
+use Rattle.mixedcells_cli.specs.Runs.{IsWrittenListing, IsSpared}
+use Rattle.mixedcells_cli.proofs.Readings.{ok_once, not_both}
+use Rattle.mixedcells_cli.proofs.Checks.{outcome_of, verdict_answer, read_of, are_listed}
+use Rattle.mixedcells_cli.proofs.Counted.{few_cells}
+
+-- ---- workings
+
+fits_working : (p : Problem) (cell : Cell) → plain.FitsWorking p cell → written.FitsWorking p cell
+fits_working p cell h = (
+  h.0,
+  λ made e. pairs_map p.supports cell
+      (λ s a b. (c : ℕ) → IsFurther s a b c → FitsWall p.dimension made (point_at s a) (point_at s c))
+      (λ s a b. (c : ℕ) → FitsAt (pos (denominator made)) (resting_part p.dimension made) s a b c)
+      (h.1 made e).1 (λ s a b f c u. (f c u).0),
+)
+
+-- ---- what is written is in form
+
+entry_within : (k : ℕ) (z : ℤ) → unsigned_abs z < suc k → (neg_ℤ (pos k) ≤ℤ z) × (z ≤ℤ pos k)
+entry_within k z h = (omega (arith, ints, h), omega (arith, ints, h))
+
+entry_of : (z : ℤ) → FitsWhole z → IsEntry z
+entry_of z f = entry_within (2 ^ 127 - 1) z f
+
+over_of : (z : ℤ) → FitsWhole z → pos 0 <ℤ z → (pos 1 ≤ℤ z) × (z ≤ℤ pos (2 ^ 127 - 1))
+over_of z f h = (omega (arith, ints, h), (entry_of z f).1)
+
+cell_of_file : (supports : List (List FilePoint)) (cell : Cell) → EachPair (map (map resting) supports) cell (λ s a b. (1 ≤ a) × (a < b) × (b ≤ length s)) → IsCellOf (map length supports) cell
+cell_of_file [] [] h = tt
+cell_of_file [] (p ∷ cell) h = absurd h
+cell_of_file (s ∷ supports) [] h = absurd h
+cell_of_file (s ∷ supports) (p ∷ cell) h = (h.0.0, h.0.1, subst (λ (k : ℕ). p.1 ≤ k) (length-map s resting) h.0.2, cell_of_file supports cell h.1)
+
+first_length : (w : Normal) (v : List ℤ) (den : ℤ) → HasFirstEntries w v den → length v ≡ length w.entries
+first_length w v den e = sym (length-scale w.over v) ∙ ap length e ∙ length-scale den (map (λ x. at x 0) w.entries) ∙ length-map w.entries (λ x. at x 0)
+
+each_contained : (P : Cell → Type 0) (cells : List Cell) → ((cell : Cell) → Contains cells cell → P cell) → Each cells P
+each_contained P [] f = tt
+each_contained P (x ∷ cells) f = (f x (0, omega arith, refl), each_contained P cells (λ cell c. f cell (suc c.0, omega (arith, c.1), c.2)))
+
+each_mixed : (file : File) (found : List FoundCell) → AreMixedCells file found → Each found (λ (x : FoundCell). IsMixedCell (plain_problem file) x.cell)
+each_mixed file found m =
+    let P = IsMixedCell (plain_problem file) in
+    each_unmap (λ (x : FoundCell). x.cell) P found (each_contained P (map (λ (x : FoundCell). x.cell) found) (λ cell c. (m.cells.1 cell).0 c))
+
+module _ (file : File) (valid : IsValidFile file) where
+  cell_formed : (x : FoundCell) → IsMixedCell (plain_problem file) x.cell → IsLowestNormal (plain_problem file) x.cell x.normal.v x.normal.den
+      → plain.FitsWorking (plain_problem file) x.cell → IsFormed (counts_of file) x
+  cell_formed x m n w =
+      let p = plain_problem file in
+      let well = (valid_of file valid).shape.problem in
+      let even = even_of file valid in
+      let alive = subst (λ q. IsAlive q x.cell time_zero) (own_points file valid) m in
+      let normal = subst (λ q. IsNormal q x.cell time_zero n.2.0) (own_points file valid) n.2.1 in
+      let long : length x.normal.v ≡ p.dimension = first_length n.2.0 x.normal.v x.normal.den n.2.2 ∙ normal.0 in
+      let level = lowest_level p x.cell even alive.0 x.normal.v x.normal.den n.2.0 long n.0 normal n.2.2 in
+      let fit = entries_fit p x.cell well even alive.0 alive.1 x.normal.den x.normal.v long n.0 n.1 level (λ made e. let r = (w.1 made e).0 in (r.0, r.1)) in
+      record {
+        cell = cell_of_file file.supports x.cell (subst (λ (q : Problem). IsOf q x.cell) (sym (plain_is file valid.version)) alive.0);
+        size = long ∙ sym valid.shape.supports ∙ sym (length-map file.supports length);
+        entries = each_weaker FitsWhole IsEntry x.normal.v entry_of fit.1;
+        den = over_of x.normal.den fit.0 n.0;
+      }
+
+  each_formed : (found : List FoundCell) → Each found (λ (x : FoundCell). IsMixedCell (plain_problem file) x.cell)
+      → Each found (λ (x : FoundCell). IsLowestNormal (plain_problem file) x.cell x.normal.v x.normal.den) → AllFit (plain_problem file) → Each found (IsFormed (counts_of file))
+  each_formed [] m n fit = tt
+  each_formed (x ∷ found) m n fit =
+      let of = (subst (λ q. IsAlive q x.cell time_zero) (own_points file valid) m.0).0 in
+      (cell_formed x m.0 n.0 (fit x.cell of), each_formed found m.1 n.1 fit)
+
+  each_working : (lines : List ListedCell) → Each lines (λ x. IsMixedCell (plain_problem file) x.cell) → AllFit (plain_problem file)
+      → Each lines (λ x. written.FitsWorking (plain_problem file) x.cell)
+  each_working [] m fit = tt
+  each_working (x ∷ lines) m fit =
+      let of = (subst (λ q. IsAlive q x.cell time_zero) (own_points file valid) m.0).0 in
+      (fits_working (plain_problem file) x.cell (fit x.cell of), each_working lines m.1 fit)
+
+-- ---- what `plain` wrote
+
+each_of_problem : (file : File) → IsValidFile file → (found : List FoundCell) → Each found (λ (x : FoundCell). IsMixedCell (plain_problem file) x.cell) → Each (map (λ (x : FoundCell). x.cell) found) (IsOf (plain_problem file))
+each_of_problem file valid [] m = tt
+each_of_problem file valid (x ∷ found) m =
+    ((subst (λ q. IsAlive q x.cell time_zero) (own_points file valid) m.0).0, each_of_problem file valid found m.1)
+
+pub plain_written : (input bytes : List ℕ) → IsPlainReply input variant.Ok bytes → IsWrittenListing bytes
+plain_written input bytes (inl h) =
+    let file = h.0 in
+    let found = h.2.2.0 in
+    let mixed = h.2.2.1 in
+    let of = each_of_problem file (meant_valid input file h.1) found (each_mixed file found mixed) in
+    let few = few_cells (plain_problem file) (map (λ (x : FoundCell). x.cell) found) h.2.0 of mixed.cells.0 in
+    let size = length-map found (λ (x : FoundCell). x.cell) in
+    (input, file, found, h.1, h.2.1, mixed, omega (arith, few, size), h.2.2.2)
+plain_written input bytes (inr h) = absurd (let e = ap status_of h.2.0 in omega (arith, e))
+
+-- ---- the listing that is read back
+
+is_written : (listing : Listing) → IsValidFile listing.file → AreMixedCells listing.file (map found_of listing.cells.items) → AllFit (plain_problem listing.file) → IsWritten listing
+is_written listing valid m fit =
+    let lines = listing.cells.items in
+    let mixed = each_unmap found_of (λ (x : FoundCell). IsMixedCell (plain_problem listing.file) x.cell) lines (each_mixed listing.file (map found_of lines) m) in
+    record {
+      mixed = record {
+        sorted = subst IsSorted (map_map (λ (x : FoundCell). x.cell) found_of lines) m.cells.0;
+        cells = mixed;
+        normals = each_unmap found_of (λ (x : FoundCell). IsLowestNormal (plain_problem listing.file) x.cell x.normal.v x.normal.den) lines m.normals;
+      };
+      workings = each_working listing.file valid lines mixed fit;
+    }
+
+spared_answer : (bytes : List ℕ) (listing : Listing) → IsListingText bytes listing → (r : Answer) → HadMemory r → SparesWritten listing r → (o : Outcome) → o ≡ outcome_of r → IsSpared bytes o
+spared_answer bytes listing text (Ok Yes) m s o e = inl e
+spared_answer bytes listing text (Ok (No line reason)) m s o e = absurd s
+spared_answer bytes listing text (Err (Overflow line)) m s o e = inr (inl (listing, line, text, s, e))
+spared_answer bytes listing text (Err OutOfMemory) m s o e = absurd m
+
+module _ (bytes : List ℕ) (w : IsWrittenListing bytes) where
+  abbrev file : File
+  file = w.1
+
+  abbrev found : List FoundCell
+  found = w.2
+
+  valid : IsValidFile file
+  valid = meant_valid w.0 file w.3
+
+  formed : Each found (IsFormed (counts_of file))
+  formed = each_formed file valid found (each_mixed file found w.5) w.5.normals w.4
+
+  -- the bytes mean the file and these cells
+  back : (listed : List ListedCell) × (listing_of bytes ≡ Ok (file, listed)) × (map found_of listed ≡ found)
+  back = let b = listing_back file found valid formed w.6 in (b.0, ap listing_of w.7 ∙ b.1, b.2)
+
+  spared_listing : (listing : Listing) → IsListingText bytes listing → IsWritten listing
+  spared_listing listing e =
+      let b = back in
+      let same : (file, b.0) ≡ read_of listing = ok_once (listing_of bytes) (file, b.0) (read_of listing) b.1 e in
+      let mixed : AreMixedCells file (map found_of b.0) = subst (AreMixedCells file) (sym b.2) w.5 in
+      is_written listing (listing_formed bytes listing.file listing.cells.items e).0
+      (subst (λ (x : Listed). AreMixedCells x.0 (map found_of x.1)) same mixed)
+      (subst (λ (x : Listed). AllFit (plain_problem x.0)) same w.4)
+
+  pub spared : (o : Outcome) (t : List ℕ) → IsCheckReply bytes o t → IsSpared bytes o
+  spared o t (inl h) =
+      let a = verdict_answer h.0 o t h.2 in
+      let valid = (listing_formed bytes h.0.file h.0.cells.items h.1).0 in
+      spared_answer bytes h.0 h.1 a.0 a.1 (written_spared h.0 a.0 valid (are_listed bytes h.0 h.1) a.2 (spared_listing h.0 h.1)) o a.3
+  spared o t (inr h) = let b = back in absurd (not_both (listing_of bytes) (file, b.0) h.0 b.1 h.1)
