@@ -10,16 +10,16 @@ const SEGMENT: &[u8] = b"mixedcells 1\ndim 1\nsupport 2\n0 : 0\n2 : 1\nend\n";
 const SQUARES: &[u8] =
     b"mixedcells 1\ndim 2\nsupport 4\n0 0 : 3\n1 0 : 10\n0 1 : 20\n1 1 : 90\nsupport 4\n0 0 : 5\n1 0 : 40\n0 1 : 9\n1 1 : 1\nend\n";
 
-// The word `plain`.
-fn plain(alloc: Global) -> Result<Vec<String>, Fail> {
+// One word.
+fn word(alloc: Global, text: &str) -> Result<Vec<String>, Fail> {
     let mut words = Vec::new(alloc);
-    words.push(String::from_str(alloc, "plain")?)?;
+    words.push(String::from_str(alloc, text)?)?;
     Ok(words)
 }
 
-// The status of a run of `plain` on bytes, and what it wrote.
-fn run(alloc: Global, input: &[u8]) -> Result<(u8, Vec<u8>), Fail> {
-    let words = plain(alloc)?;
+// The status of a run of one word on bytes, and what it wrote.
+fn run(alloc: Global, text: &str, input: &[u8]) -> Result<(u8, Vec<u8>), Fail> {
+    let words = word(alloc, text)?;
     let mut source = SteadySource::new(input.to_vec(alloc)?);
     let Ok(mut sink) = MemorySink::new(alloc, 4096, 1000, Vec::new(alloc)) else {
         return Err(Fail::from("out of memory"));
@@ -63,7 +63,7 @@ fn listings_of_small_files(rt: HostRuntime) -> Result<(), Fail> {
         ),
     ];
     for (file, cells) in rows {
-        let (status, written) = run(rt.alloc(), file)?;
+        let (status, written) = run(rt.alloc(), "plain", file)?;
         let mut want = file.to_vec(rt.alloc())?;
         want.extend_from_slice(cells)?;
         assert_eq!(rt; status, 0);
@@ -76,8 +76,8 @@ fn listings_of_small_files(rt: HostRuntime) -> Result<(), Fail> {
 fn odd_spelling_is_written_plainly(rt: HostRuntime) -> Result<(), Fail> {
     let odd =
         b"mixedcells 1\r\n# note\r\n\r\ndim\t1\r\nsupport 2\r\n0:+0\r\n  2 : 01 # last\r\nend";
-    let (status, written) = run(rt.alloc(), odd)?;
-    let (_, want) = run(rt.alloc(), SEGMENT)?;
+    let (status, written) = run(rt.alloc(), "plain", odd)?;
+    let (_, want) = run(rt.alloc(), "plain", SEGMENT)?;
     assert_eq!(rt; status, 0);
     assert_eq!(rt; written.as_slice(), want.as_slice());
     Ok(())
@@ -124,7 +124,7 @@ fn refusals_by_their_lines(rt: HostRuntime) -> Result<(), Fail> {
         ),
     ];
     for (input, want, line) in rows {
-        let (status, written) = run(rt.alloc(), input)?;
+        let (status, written) = run(rt.alloc(), "plain", input)?;
         assert_eq!(rt; status, want);
         assert_eq!(rt; written.as_slice(), line);
     }
@@ -137,7 +137,7 @@ const LONG_EDGES: &[u8] =
 
 #[test]
 fn seven_long_edges_overflow(rt: HostRuntime) -> Result<(), Fail> {
-    let (status, written) = run(rt.alloc(), LONG_EDGES)?;
+    let (status, written) = run(rt.alloc(), "plain", LONG_EDGES)?;
     assert_eq!(rt; status, 5);
     assert_eq!(rt;
         written.as_slice(),
@@ -161,7 +161,7 @@ fn words_without_a_meaning_read_nothing(rt: HostRuntime) -> Result<(), Fail> {
 
 #[test]
 fn a_failed_read_writes_nothing(rt: HostRuntime) -> Result<(), Fail> {
-    let words = plain(rt.alloc())?;
+    let words = word(rt.alloc(), "plain")?;
     let failing = [1].to_vec(rt.alloc())?;
     let mut source = MemorySource::new(SEGMENT.to_vec(rt.alloc())?, 100, failing);
     let Ok(mut sink) = MemorySink::new(rt.alloc(), 100, 100, Vec::new(rt.alloc())) else {
@@ -175,7 +175,7 @@ fn a_failed_read_writes_nothing(rt: HostRuntime) -> Result<(), Fail> {
 
 #[test]
 fn a_failed_write_leaves_a_prefix(rt: HostRuntime) -> Result<(), Fail> {
-    let words = plain(rt.alloc())?;
+    let words = word(rt.alloc(), "plain")?;
     let mut source = SteadySource::new(SEGMENT.to_vec(rt.alloc())?);
     let failing = [3].to_vec(rt.alloc())?;
     let Ok(mut sink) = MemorySink::new(rt.alloc(), 1000, 4, failing) else {
@@ -195,9 +195,96 @@ fn input_past_the_limit_is_too_long(rt: HostRuntime) -> Result<(), Fail> {
     ];
     for (length, want, line) in rows {
         let input = vec![in rt.alloc(); b'#'; length]?;
-        let (status, written) = run(rt.alloc(), &input)?;
+        let (status, written) = run(rt.alloc(), "plain", &input)?;
         assert_eq!(rt; status, want);
         assert_eq!(rt; written.as_slice(), line);
     }
+    Ok(())
+}
+
+// The two squares with their start heights.
+const STARTED: &[u8] =
+    b"mixedcells 1\ndim 2\nsupport 4\n0 0 : 3\n1 0 : 10\n0 1 : 20\n1 1 : 90\nsupport 4\n0 0 : 5\n1 0 : 40\n0 1 : 9\n1 1 : 1\nstart 100\nstart 100\nend\n";
+
+// The lines that `plain` writes behind them.
+const CELLS: &[u8] = b"cells 2\ncell 1 2 1 4 : -7 11 / 1\ncell 1 3 3 4 : 8 -17 / 1\nend\n";
+
+// The two squares with lines behind them.
+fn squares_with(alloc: Global, lines: &[u8]) -> Result<Vec<u8>, Fail> {
+    let mut text = STARTED.to_vec(alloc)?;
+    text.extend_from_slice(lines)?;
+    Ok(text)
+}
+
+#[test]
+fn listings_are_judged_line_by_line(rt: HostRuntime) -> Result<(), Fail> {
+    let (status, written) = run(rt.alloc(), "plain", STARTED)?;
+    let listing = squares_with(rt.alloc(), CELLS)?;
+    assert_eq!(rt; status, 0);
+    assert_eq!(rt; written.as_slice(), listing.as_slice());
+    let rows: [(&[u8], u8, &[u8]); 9] = [
+        (CELLS, 0, b"yes\n"),
+        (
+            b"cells 2\ncell 1 2 1 4 : -7 12 / 1\ncell 1 3 3 4 : 8 -17 / 1\nend\n",
+            1,
+            b"no: line 17 reason 3\n",
+        ),
+        (
+            b"cells 2\ncell 1 3 3 4 : 8 -17 / 1\ncell 1 2 1 4 : -7 11 / 1\nend\n",
+            1,
+            b"no: line 18 reason 1\n",
+        ),
+        (
+            b"cells 2\ncell 1 2 1 4 : -14 22 / 2\ncell 1 3 3 4 : 8 -17 / 1\nend\n",
+            1,
+            b"no: line 17 reason 5\n",
+        ),
+        (
+            b"cells 2\ncell 1 2 1 3 : -7 -4 / 1\ncell 1 3 3 4 : 8 -17 / 1\nend\n",
+            1,
+            b"no: line 17 reason 4\n",
+        ),
+        (
+            b"cells 1\ncell 1 4 1 4 : 0 0 / 1\nend\n",
+            1,
+            b"no: line 17 reason 2\n",
+        ),
+        (
+            b"cells 1\ncell 1 2 1 4 : 170141183460469231731687303715884105727 11 / 1\nend\n",
+            5,
+            b"overflow: line 17\n",
+        ),
+        (b"cells 0\nend\n", 0, b"yes\n"),
+        (b"", 3, b"format: line 16 kind 8\n"),
+    ];
+    for (lines, want, line) in rows {
+        let input = squares_with(rt.alloc(), lines)?;
+        let (status, written) = run(rt.alloc(), "check", &input)?;
+        assert_eq!(rt; status, want);
+        assert_eq!(rt; written.as_slice(), line);
+    }
+    Ok(())
+}
+
+#[test]
+fn a_listing_is_no_problem_file(rt: HostRuntime) -> Result<(), Fail> {
+    let input = squares_with(rt.alloc(), CELLS)?;
+    let (status, written) = run(rt.alloc(), "plain", &input)?;
+    assert_eq!(rt; status, 3);
+    assert_eq!(rt; written.as_slice(), b"format: line 16 kind 9\n".as_slice());
+    Ok(())
+}
+
+#[test]
+fn check_takes_no_further_word(rt: HostRuntime) -> Result<(), Fail> {
+    let mut words = word(rt.alloc(), "check")?;
+    words.push(String::from_str(rt.alloc(), "extra")?)?;
+    let mut source = SteadySource::new(SEGMENT.to_vec(rt.alloc())?);
+    let Ok(mut sink) = MemorySink::new(rt.alloc(), 100, 100, Vec::new(rt.alloc())) else {
+        return Err(Fail::from("out of memory"));
+    };
+    let outcome = run_alone(rt.alloc(), &words, &mut source, &mut sink);
+    assert_eq!(rt; outcome.status(), 2);
+    assert_eq!(rt; sink.bytes(), b"usage\n".as_slice());
     Ok(())
 }
