@@ -1,0 +1,4 @@
+pub mod Workings
+pub mod MovingNormals
+pub mod Kernels
+pub mod LowestForms
