@@ -1,0 +1,3 @@
+pub mod PairEquations
+pub mod RowEquations
+pub mod CellAnswers

@@ -13,7 +13,7 @@ ghost use Rattle.inner_normal.specs.Workings.{FitsNormal, IsNormalFrom, FitsNorm
 
 use crate::moving::MovingNormal;
 use cayley::{Cell, Problem};
-use reduced_rows::{CellFault, FromFault, Reduced};
+use reduced_rows::{CellFault, FromFault, ReduceFault, Reduced, reduce};
 use std::alloc::Global;
 
 /// The normal at all times of a cell whose rows have these reduced rows. `Overflow` exactly where a
@@ -28,7 +28,22 @@ pub fn normal_from(alloc: Global, reduced: &Reduced) -> Result<MovingNormal, Fro
     ensures normal { IfOk result (λ m. (p : problems.Problem) (cell : cells.Cell) → IsProblem p → IsOf p cell
         → IsEliminated p.dimension (edge_rows p cell) reduced.now → IsMovingNormal p cell m) }
 {
-    Err(FromFault::OutOfMemory)
+    let Some(den) = reduced.denominator() else {
+        return Err(FromFault::Overflow);
+    };
+    let resting = reduced.count();
+    let Some(moving) = resting.checked_add(1) else {
+        return Err(FromFault::OutOfMemory);
+    };
+    let p = match reduced.solution(alloc, resting, den) {
+        Ok(p) => p,
+        Err(fault) => return Err(fault),
+    };
+    let q = match reduced.solution(alloc, moving, den) {
+        Ok(q) => q,
+        Err(fault) => return Err(fault),
+    };
+    Ok(MovingNormal { p, q, den })
 }
 
 /// The normal at all times of a cell that the problem contains. `Overflow` exactly where a number
@@ -50,5 +65,18 @@ pub fn normal_of(alloc: Global, problem: &Problem, cell: &Cell) -> Result<Moving
             × ((made : List (List ℤ)) → IsEliminated problem.now.dimension (edge_rows problem.now cell.now) made → IsNormalFrom made m))
         (IsCellFault (FitsNormalWorking problem.now cell.now) problem.now.dimension (edge_rows problem.now cell.now)) }
 {
-    Err(CellFault::OutOfMemory)
+    let Ok(rows) = problem.edge_rows(alloc, cell) else {
+        return Err(CellFault::OutOfMemory);
+    };
+    let reduced = match reduce(alloc, rows, problem.dim()) {
+        Ok(reduced) => reduced,
+        Err(ReduceFault::Overflow) => return Err(CellFault::Overflow),
+        Err(ReduceFault::Dependent { kernel }) => return Err(CellFault::Dependent { kernel }),
+        Err(ReduceFault::OutOfMemory) => return Err(CellFault::OutOfMemory),
+    };
+    match normal_from(alloc, &reduced) {
+        Ok(moving) => Ok(moving),
+        Err(FromFault::Overflow) => Err(CellFault::Overflow),
+        Err(FromFault::OutOfMemory) => Err(CellFault::OutOfMemory),
+    }
 }
