@@ -1,3 +1,4 @@
 pub mod PairEquations
 pub mod RowEquations
 pub mod CellAnswers
+pub mod CommonFactors
