@@ -10,3 +10,6 @@ pub use lowest::target_normal;
 pub use moving::MovingNormal;
 pub use normals::{normal_from, normal_of};
 pub use reduced_rows::CellFault;
+
+#[cfg(test)]
+mod tests;
