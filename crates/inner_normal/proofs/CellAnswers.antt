@@ -1,13 +1,13 @@
 -- what the answers for a cell say of its pairs
-use Rattle.std.proofs.Common.{◌≡◌, ◌↔◌, ℕ, suc, ◌+◌, ◌≤◌, List, arith, refl, sym, ap, subst, ◌∙◌}
-use Rattle.std.proofs.Math.IntN.{ℤ, pos}
-use Rattle.reduced_rows.specs.Spans.{IsReducedOf, IsKernelOf}
-use Rattle.reduced_rows.specs.Steps.{OfLength, FitsElimination}
+use Rattle.std.proofs.Common.{ℕ, suc, ◌+◌, ◌≤◌, List, arith, sym, subst}
+use Rattle.std.proofs.Math.IntN.{ℤ}
+use Rattle.reduced_rows.specs.Spans.{IsKernelOf}
+use Rattle.reduced_rows.specs.Steps.{OfLength}
 use Rattle.reduced_rows.specs.CellRefusals.{IsEliminated}
 use Rattle.cayley.specs.Problems.{Problem, IsProblem, HasSamePoints}
 use Rattle.cayley.specs.Cells.{Cell, IsOf, IsIndependent}
 use Rattle.cayley.specs.Rows.{edge_rows}
-use Rattle.cayley.proofs.CellRows.{pairs_from_rows, independent_rows, rows_independent, rows_width}
+use Rattle.cayley.proofs.CellRows.{pairs_from_rows, rows_width}
 use Rattle.cayley.proofs.Unperturbed.{same_rows, same_dimension, same_well, same_of}
 use Rattle.inner_normal.specs.declared.moving.MovingNormal.{MovingNormal}
 use Rattle.inner_normal.specs.Kernels.{IsCellKernel}

@@ -1,5 +1,5 @@
 -- a vector and a denominator divided by their greatest common divisor
-use Rattle.std.proofs.Common.{◌≡◌, ◌≢◌, ℕ, ◌*◌, ◌<◌, ℤ, pos, negsuc, ◌+ℤ◌, ◌*ℤ◌, ◌<ℤ◌, unsigned_abs, List, [], ◌∷◌, length, map, drop, refl, sym, ap, ap₂, subst, ◌∙◌, arith}
+use Rattle.std.proofs.Common.{◌≡◌, ◌≢◌, ℕ, ◌*◌, ◌<◌, ℤ, pos, negsuc, ◌*ℤ◌, ◌<ℤ◌, unsigned_abs, List, [], ◌∷◌, length, map, drop, refl, sym, ap, ap₂, subst, ◌∙◌, arith}
 use Prim.Native.Nat.{◌∣◌}
 use Rattle.std.specs.Int.{IsGcd}
 use Rattle.std.proofs.Math.Nat.{one-dvd, mul-dvd-mul_left, dvd_of_mul-dvd-mul_left}
@@ -18,7 +18,7 @@ use Rattle.cayley.specs.Times.{time_zero}
 use Rattle.cayley.proofs.CellNormals.{a_normal}
 use Rattle.inner_normal.specs.declared.moving.MovingNormal.{MovingNormal}
 use Rattle.inner_normal.specs.LowestForms.{IsLowestForm}
-use Rattle.inner_normal.specs.MovingNormals.{numerators, IsMovingNormal}
+use Rattle.inner_normal.specs.MovingNormals.{IsMovingNormal}
 
 divided_each : (d g : ℕ) (k : ℤ) (v : List ℤ) → unsigned_abs k ≡ g → Each v (λ x. d ∣ unsigned_abs x) → DividesEach (g * d) (scale k v)
 divided_each d g k [] e h = tt

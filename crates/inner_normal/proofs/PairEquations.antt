@@ -1,10 +1,10 @@
 -- numbers that solve the equations of a cell's pairs are its normal at every time
-use Rattle.std.proofs.Common.{◌≡◌, ◌↔◌, ℕ, zero, suc, ◌+◌, List, [], ◌∷◌, length, map, arith, refl, sym, ap, ap₂, subst, subst₂, ◌∙◌, ◌<ℤ◌}
+use Rattle.std.proofs.Common.{◌≡◌, ℕ, zero, suc, List, [], ◌∷◌, length, arith, refl, sym, ap, ap₂, subst₂, ◌∙◌, ◌<ℤ◌}
 use Rattle.std.proofs.lemmas.Int.{ints}
 use Rattle.std.proofs.lemmas.List.{length-map}
 use Rattle.std.proofs.Math.IntN.{ℤ, pos, ◌+ℤ◌, ◌-ℤ◌, ◌*ℤ◌, neg_ℤ, *ℤ-zero, *ℤ_comm}
 use Rattle.wide_int.proofs.Ring.{as_D, Ds, same_D, neg_mul_ℤ}
-use Rattle.int_vectors.specs.Vectors.{IsZero, add, sub, scale, dot, at, at_place}
+use Rattle.int_vectors.specs.Vectors.{IsZero, add, sub, scale, dot, at}
 use Rattle.cayley.specs.Times.{Time}
 use Rattle.cayley.specs.Problems.{Point, Problem, IsProblem, point_at, with_rank, unperturbed}
 use Rattle.cayley.specs.Cells.{Cell, EachPair, IsOf, IsIndependent}
@@ -19,7 +19,7 @@ use Rattle.cayley.proofs.MovingNormals as moved
 use Rattle.cayley.proofs.MovingNormals.{Moving, moving, wall, IsFrame, moving_normal}
 use Rattle.cayley.proofs.Unperturbed.{same_unperturbed, same_well, same_of, same_independent, each_pair_unranked, point_unranked}
 use Rattle.inner_normal.specs.declared.moving.MovingNormal.{MovingNormal}
-use Rattle.inner_normal.specs.MovingNormals.{values, numerators, IsAt, IsMovingNormal}
+use Rattle.inner_normal.specs.MovingNormals.{values, numerators, IsMovingNormal}
 
 abbrev pub difference : List Point → ℕ → ℕ → List ℤ
 difference s a b = sub (point_at s b).coordinates (point_at s a).coordinates
@@ -47,8 +47,8 @@ frame_of p cell m l e = (
   l,
   each_pair_unranked (Levels m.den m.starts m.slopes) (λ s a b. IsZero (wall m (point_at s a) (point_at s b)).start × ((wall m (point_at s a) (point_at s b)).slope ≡ pos 0))
       (λ s a b h.
-          subst₂ (λ (x y : Point). IsZero (wall m x y).start × ((wall m x y).slope ≡ pos 0)) (sym (point_unranked s a)) (sym (point_unranked s b))
-          (level_wall m (point_at s a) (point_at s b) h.0 h.1))
+      subst₂ (λ (x y : Point). IsZero (wall m x y).start × ((wall m x y).slope ≡ pos 0)) (sym (point_unranked s a)) (sym (point_unranked s b))
+      (level_wall m (point_at s a) (point_at s b) h.0 h.1))
       p.supports cell e,
 )
 
@@ -91,7 +91,7 @@ first_flat : (t : Time) (v : Normal) (den : ℤ) (ps qs : List ℤ) (x y : Point
 first_flat t v den ps qs x y e f g =
     let d = sub y.coordinates x.coordinates in
     let h : t.over *ℤ dot d (entry 0 v.entries) +ℤ v.over *ℤ (t.over *ℤ (y.base -ℤ x.base) +ℤ (y.speed -ℤ x.speed) *ℤ at t.entries 0) ≡ pos 0 =
-        ap (λ z. t.over *ℤ dot d (entry 0 v.entries) +ℤ v.over *ℤ z) (sym (first_rise t x y)) ∙ sym (gap-at d v.entries (sub (height t y) (height t x)) t.over v.over 0) ∙ at-zero (gap t v x y) 0 g in
+    ap (λ z. t.over *ℤ dot d (entry 0 v.entries) +ℤ v.over *ℤ z) (sym (first_rise t x y)) ∙ sym (gap-at d v.entries (sub (height t y) (height t x)) t.over v.over 0) ∙ at-zero (gap t v x y) 0 g in
     dot-add d (scale v.over (numerators t ps qs)) (scale (neg_ℤ (t.over *ℤ den)) (entry 0 v.entries))
     ∙ ap₂ ◌+ℤ◌ (dot-scale d v.over (numerators t ps qs) ∙ ap (λ z. v.over *ℤ z) (dot_numerators t d ps qs)) (dot-scale d (neg_ℤ (t.over *ℤ den)) (entry 0 v.entries))
     ∙ together v.over t.over (at t.entries 0) den (dot d ps) (dot d qs) (dot d (entry 0 v.entries)) (y.base -ℤ x.base) (y.speed -ℤ x.speed) e f h

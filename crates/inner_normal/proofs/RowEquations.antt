@@ -1,10 +1,9 @@
 -- the columns beside the reduced ones solve the equations of a cell's pairs
-use Rattle.std.proofs.Common.{◌≡◌, ◌≢◌, ℕ, zero, suc, ◌+◌, ◌<◌, ◌≤◌, List, [], ◌∷◌, ◌++◌, length, Ok, unsigned_abs, arith, refl, sym, ap, ap₂, subst, subst₂, ◌∙◌, ◌<ℤ◌}
-use Rattle.std.proofs.lemmas.Int.{ints}
+use Rattle.std.proofs.Common.{◌≡◌, ℕ, suc, ◌+◌, ◌<◌, List, [], ◌∷◌, ◌++◌, length, unsigned_abs, arith, refl, sym, ap, ap₂, subst, subst₂, ◌∙◌, ◌<ℤ◌}
 use Rattle.std.proofs.Math.IntN.{ℤ, pos, ◌+ℤ◌, ◌-ℤ◌, ◌*ℤ◌}
 use Rattle.wide_int.proofs.Ring.{as_D, Ds, same_D, D-pos}
 use Rattle.int_vectors.specs.Vectors.{Each, dot, IsOrthogonal}
-use Rattle.reduced_rows.specs.Denominators.{shares, zeros, lcm_from, FitsLcm, FitsShares}
+use Rattle.reduced_rows.specs.Denominators.{shares, zeros}
 use Rattle.reduced_rows.specs.CellRefusals.{IsEliminated}
 use Rattle.reduced_rows.specs.Spans.{IsReducedOf}
 use Rattle.reduced_rows.specs.Steps.{OfLength}
@@ -18,8 +17,8 @@ use Rattle.cayley.proofs.CellRows.{pairs_orthogonal, rows_independent, rows_coun
 use Rattle.cayley.proofs.Soon.{each_pair-map}
 use Rattle.inner_normal.specs.declared.moving.MovingNormal.{MovingNormal}
 use Rattle.inner_normal.specs.MovingNormals.{IsMovingNormal}
-use Rattle.inner_normal.specs.Workings.{denominator, FitsNormal, IsNormalFrom}
-use Rattle.inner_normal.proofs.PairEquations.{Levels, difference, each_pair_both, moving_of}
+use Rattle.inner_normal.specs.Workings.{denominator, IsNormalFrom}
+use Rattle.inner_normal.proofs.PairEquations.{difference, each_pair_both, moving_of}
 
 append_assoc : (xs ys zs : List ℤ) → (xs ++ ys) ++ zs ≡ xs ++ (ys ++ zs)
 append_assoc [] ys zs = refl

@@ -1,5 +1,5 @@
 -- The normal of a cell at all times.
-use Rattle.std.specs.Prelude.{◌≡◌, List, [], ◌∷◌, length, ℤ, pos, ◌+ℤ◌, ◌*ℤ◌, ◌<ℤ◌}
+use Rattle.std.specs.Prelude.{◌≡◌, List, [], ◌∷◌, length, ℤ, pos, ◌*ℤ◌, ◌<ℤ◌}
 use Rattle.int_vectors.specs.Vectors.{add, scale, at}
 use Rattle.cayley.specs.Times.{Time}
 use Rattle.cayley.specs.Problems.{Problem, IsProblem, unperturbed}

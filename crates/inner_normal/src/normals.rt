@@ -62,7 +62,7 @@ pub fn normal_of(alloc: Global, problem: &Problem, cell: &Cell) -> Result<Moving
     // The numbers that come out are those of the working.
     ensures working { MatchResult result
         (λ m. FitsNormalWorking problem.now cell.now
-            × ((made : List (List ℤ)) → IsEliminated problem.now.dimension (edge_rows problem.now cell.now) made → IsNormalFrom made m))
+        × ((made : List (List ℤ)) → IsEliminated problem.now.dimension (edge_rows problem.now cell.now) made → IsNormalFrom made m))
         (IsCellFault (FitsNormalWorking problem.now cell.now) problem.now.dimension (edge_rows problem.now cell.now)) }
 {
     let Ok(rows) = problem.edge_rows(alloc, cell) else {

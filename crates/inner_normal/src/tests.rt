@@ -156,7 +156,10 @@ fn the_normal_of_a_box(rt: HostRuntime) -> Result<(), Fail> {
     assert_eq!(rt; moving.q.as_slice(), [0, 0].as_slice());
     assert_eq!(rt; moving.den, 12);
     let moving = box_answer(rt.alloc(), &PRIMES[..6], 5_317_472)??;
-    assert_eq!(rt; moving.den, 63_989_696_609_439_490_295_102_903_391_934_811_149);
+    assert_eq!(rt;
+        moving.den,
+        63_989_696_609_439_490_295_102_903_391_934_811_149
+    );
     Ok(())
 }
 

@@ -1,4 +1,4 @@
-use Rattle.std.proofs.Common.{rules, ◌≡◌, length, FitsSigned, to_z-of_z, ◌∙◌, sym, refl, subst, ap, suc, ◌+◌, arith}
+use Rattle.std.proofs.Common.{rules, ◌≡◌, length, FitsSigned, to_z-of_z, suc, arith}
 use Rattle.std.specs.Int.{w128}
 use Rattle.inner_normal.proofs.RowEquations.{resting_inside, moving_inside, moving_from, from_solutions}
 use Rattle.inner_normal.proofs.normals.normal_from.Goals as goal

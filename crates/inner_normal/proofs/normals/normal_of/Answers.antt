@@ -1,4 +1,3 @@
-use Rattle.std.proofs.Common.{◌≡◌}
 use Rattle.inner_normal.proofs.CellAnswers.{rows_lengths, cell_kernel, kernel_dependent, of_each}
 use Rattle.cayley.proofs.CellRows.{rows_independent}
 use Rattle.inner_normal.proofs.normals.normal_of.Goals as goal
