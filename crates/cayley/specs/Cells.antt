@@ -27,6 +27,12 @@ IsIndependent p cell = (v : List ℤ) → length v ≡ p.dimension
     → EachPair p.supports cell (λ s a b. dot (sub (point_at s b).coordinates (point_at s a).coordinates) v ≡ pos 0)
     → IsZero v
 
+-- a vector that shows that the cell is dependent: other than zero, and orthogonal to each difference of the pairs
+pub record IsCellKernel (p : Problem) (cell : Cell) (kernel : List ℤ) : Type 0 where
+  pub long : length kernel ≡ p.dimension
+  pub other : ¬ (IsZero kernel)
+  pub orthogonal : EachPair p.supports cell (λ s a b. dot (sub (point_at s b).coordinates (point_at s a).coordinates) kernel ≡ pos 0)
+
 -- a point of the support that is neither of the pair
 abbrev pub IsFurther : List Point → ℕ → ℕ → ℕ → Type 0
 IsFurther s a b c = (1 ≤ c) × (c ≤ length s) × (c ≢ a) × (c ≢ b)

@@ -1,4 +1,3 @@
 pub mod Workings
 pub mod MovingNormals
-pub mod Kernels
 pub mod LowestForms

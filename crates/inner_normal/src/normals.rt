@@ -1,13 +1,12 @@
 ghost use Rattle.std.specs.Prelude.{◌≡◌, ◌↔◌, ℤ, List, MatchResult, IfOk, IfErr, length};
 ghost use Rattle.cayley.specs.Cells as cells;
-ghost use Rattle.cayley.specs.Cells.{IsOf, IsIndependent};
+ghost use Rattle.cayley.specs.Cells.{IsOf, IsIndependent, IsCellKernel};
 ghost use Rattle.cayley.specs.Problems as problems;
 ghost use Rattle.cayley.specs.Problems.{IsProblem, HasSamePoints};
 ghost use Rattle.cayley.specs.Rows.{edge_rows};
-ghost use Rattle.reduced_rows.specs.CellRefusals.{IsEliminated, IsCellFault, HasAnswer, IsCellDependent, CellOverflowExactly};
+ghost use Rattle.reduced_rows.specs.CellRefusals.{IsEliminated, IsCellFault, OnDependent, HasAnswer, IsCellDependent, CellOverflowExactly};
 ghost use Rattle.reduced_rows.specs.Refusals.{IsFromFault};
 ghost use Rattle.reduced_rows.specs.Steps.{FitsElimination};
-ghost use Rattle.inner_normal.specs.Kernels.{HasCellKernel};
 ghost use Rattle.inner_normal.specs.MovingNormals.{IsMovingNormal};
 ghost use Rattle.inner_normal.specs.Workings.{FitsNormal, IsNormalFrom, FitsNormalWorking};
 
@@ -58,7 +57,7 @@ pub fn normal_of(alloc: Global, problem: &Problem, cell: &Cell) -> Result<Moving
     ensures dependent { HasAnswer result → IsCellDependent result
         ↔ (FitsElimination problem.now.dimension (edge_rows problem.now cell.now) × ¬ (IsIndependent problem.now cell.now)) }
     // Dependent: the kernel isn't zero, and it is orthogonal to each difference of the pairs.
-    ensures kernel { IfErr result (HasCellKernel problem.now cell.now) }
+    ensures kernel { IfErr result (OnDependent (IsCellKernel problem.now cell.now)) }
     // The numbers that come out are those of the working.
     ensures working { MatchResult result
         (λ m. FitsNormalWorking problem.now cell.now

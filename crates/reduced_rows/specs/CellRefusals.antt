@@ -22,6 +22,12 @@ IsCellFault fits n rows Overflow = ¬ fits
 IsCellFault fits n rows (Dependent kernel) = FitsElimination n rows × (elimination n rows ≡ Err kernel) × IsKernelOf n rows kernel
 IsCellFault fits n rows OutOfMemory = Unit {0}
 
+-- Dependent: with a kernel of which P holds
+abbrev pub OnDependent : (List ℤ → Type 0) → CellFault → Type 0
+OnDependent P Overflow = Unit {0}
+OnDependent P (Dependent kernel) = P kernel
+OnDependent P OutOfMemory = Unit {0}
+
 -- the answer isn't want of memory
 abbrev pub HasAnswer : {A : Type 0} → Result A CellFault → Type 0
 HasAnswer (Ok a) = Unit {0}
