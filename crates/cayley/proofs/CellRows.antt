@@ -118,7 +118,7 @@ rows_independent p cell well of ind v l e = ind v l (rows_from_pairs p.dimension
 pub independent_rows : (p : Problem) (cell : Cell) → IsProblem p → IsOf p cell → IsIndependent p cell → Independent p.dimension (edge_rows p cell)
 independent_rows p cell well of ind v l e = ind v l (pairs_from_rows p.dimension 0 p.supports cell v l well.points of e)
 
-length-rows : (n i : ℕ) (supports : List (List Point)) (cell : Cell) (P : List Point → ℕ → ℕ → Type 0) → EachPair supports cell P → length (edge_rows_from n i supports cell) ≡ length supports
+pub length-rows : (n i : ℕ) (supports : List (List Point)) (cell : Cell) (P : List Point → ℕ → ℕ → Type 0) → EachPair supports cell P → length (edge_rows_from n i supports cell) ≡ length supports
 length-rows n i [] cell P e = refl
 length-rows n i (s ∷ supports) [] P e = absurd e
 length-rows n i (s ∷ supports) (x ∷ cell) P e = ap suc (length-rows n (suc i) supports cell P e.1)

@@ -68,6 +68,7 @@ pub mod MovingNormals
 pub mod MovingWalls
 pub mod Unperturbed
 pub mod CellRows
+pub mod RestingGaps
 mod WorkedSquares
 mod WorkedPoint
 mod WorkedLevelPoints

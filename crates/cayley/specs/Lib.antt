@@ -21,3 +21,4 @@ pub mod LifeLaws
 pub mod Computed
 pub mod Begins
 pub mod Shapes
+pub mod Resting

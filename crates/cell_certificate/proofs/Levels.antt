@@ -10,12 +10,13 @@ use Rattle.cayley.specs.Valid.{IsValidFile}
 use Rattle.cayley.specs.Cells.{Cell, EachPair, IsOf}
 use Rattle.cayley.specs.Normals.{gap}
 use Rattle.cell_certificate.specs.Sides.{at_rest}
-use Rattle.cell_certificate.specs.Sums.{rise, RisesAt}
-use Rattle.cell_certificate.specs.Tests.{normal_over, IsLevelAt, IsLeastAt}
-use Rattle.cell_certificate.proofs.EdgeRows.{InRange, each_position}
-use Rattle.cell_certificate.proofs.Gaps.{gap_is, zero_gap, positive_gap}
+use Rattle.cell_certificate.specs.Sums.{RisesAt}
+use Rattle.cell_certificate.specs.Tests.{IsLevelAt, IsLeastAt}
 use Rattle.cell_certificate.proofs.Supports.{supports_are}
 use Rattle.cell_certificate.proofs.Together.{pairs_both, pairs_each}
+use Rattle.cayley.specs.Resting.{rise, normal_over}
+use Rattle.cayley.proofs.CellRows.{InRange, each_position}
+use Rattle.cayley.proofs.RestingGaps.{gap_is, zero_gap, positive_gap}
 
 -- no point has an infinitesimal of its own
 abbrev pub HasNoRanks : List (List Point) → Type 0

@@ -5,7 +5,6 @@ pub mod Turns
 pub mod Together
 pub mod Supports
 pub mod EdgeRows
-pub mod Gaps
 pub mod Coprime
 pub mod Levels
 pub mod Verdicts

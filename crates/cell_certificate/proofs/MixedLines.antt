@@ -13,10 +13,10 @@ use Rattle.listing_text.specs.declared.listing.Listing.{Listing}
 use Rattle.listing_text.specs.declared.listing.ListedCell.{ListedCell}
 use Rattle.cell_certificate.specs.declared.judgement.Judgement.TheVariants.{Passes}
 use Rattle.cell_certificate.specs.Judgements.{IsJudged, AllPass}
-use Rattle.cell_certificate.specs.Tests.{normal_over}
 use Rattle.cell_certificate.specs.Answers.{IsRight}
 use Rattle.cell_certificate.specs.Written.{IsListed, AreListed, AreMixed}
 use Rattle.cell_certificate.proofs.PlainPoints.{own_points}
+use Rattle.cayley.specs.Resting.{normal_over}
 
 pub first_entries : (v : List ℤ) → map (λ (e : List ℤ). at e 0) (map (λ (x : ℤ). x ∷ []) v) ≡ v
 first_entries [] = refl

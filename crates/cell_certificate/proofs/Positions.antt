@@ -8,7 +8,8 @@ use Rattle.cayley.specs.Stored.{file_point}
 use Rattle.cayley.specs.Files.{FilePoint}
 use Rattle.cayley.specs.Problems.{origin, point_at}
 use Rattle.cell_certificate.specs.Sides.{seen}
-use Rattle.cell_certificate.specs.Sums.{rise, FitsRise, FitsAt, RisesAt}
+use Rattle.cell_certificate.specs.Sums.{FitsRise, FitsAt, RisesAt}
+use Rattle.cayley.specs.Resting.{rise}
 
 -- what is true of each mapped element is true at a place
 pub mapped_at : (P : FilePoint → Type 0) (points : List StoredPoint) (k : ℕ) (x : StoredPoint) → Each (map file_point points) P → k < length points

@@ -16,7 +16,7 @@ use Rattle.cell_certificate.specs.declared.judgement.Judgement.TheVariants.{Pass
 use Rattle.cell_certificate.specs.declared.verdict.Verdict.TheVariants.{Yes, No}
 use Rattle.cell_certificate.specs.declared.verdict.CheckFault.TheVariants.{Overflow, OutOfMemory}
 use Rattle.cell_certificate.specs.Judgements.{IsJudged, FirstRefused, FitsRows, HasLevel, HasLeast, HasLowest}
-use Rattle.cell_certificate.specs.Tests.{Follows, normal_over}
+use Rattle.cell_certificate.specs.Tests.{Follows}
 use Rattle.cell_certificate.specs.Sums.{FitsOwn, FitsFurther}
 use Rattle.cell_certificate.specs.Answers.{Answer, IsAnswer, WrongAt, TooLargeAt, reason_of}
 use Rattle.cell_certificate.specs.Written.{IsListed, AreListed, IsWritten, FitsWorking, SparesWritten}
@@ -24,6 +24,7 @@ use Rattle.cell_certificate.proofs.Levels.{even_of}
 use Rattle.cell_certificate.proofs.LowestLevel.{lowest_level}
 use Rattle.cell_certificate.proofs.PlainPoints.{valid_of, own_points}
 use Rattle.cell_certificate.proofs.WorkedSums.{further_fits}
+use Rattle.cayley.specs.Resting.{normal_over}
 
 -- what is right of a line
 record Right (p : Problem) (x : ListedCell) : Type 0 where

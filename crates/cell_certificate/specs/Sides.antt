@@ -7,8 +7,9 @@ use Rattle.cayley.specs.Files.{FilePoint, resting}
 use Rattle.cayley.specs.Problems.{Point, Problem, with_rank, point_at}
 use Rattle.cayley.specs.Cells.{Cell}
 use Rattle.cell_certificate.specs.declared.sides.Sides.{Sides}
-use Rattle.cell_certificate.specs.Sums.{rise, FitsRise, FitsAt, RisesAt}
+use Rattle.cell_certificate.specs.Sums.{FitsRise, FitsAt, RisesAt}
 use Rattle.cell_certificate.specs.Tests.{IsLevelAt, IsLeastAt}
+use Rattle.cayley.specs.Resting.{rise}
 
 -- a file point as a point of the problem of the file's points alone
 abbrev pub at_rest : FilePoint → Point

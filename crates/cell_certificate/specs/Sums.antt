@@ -5,12 +5,9 @@ use Rattle.int_vectors.specs.Fits.{FitsDot}
 use Rattle.int_vectors.specs.Vectors.{sub, dot}
 use Rattle.cayley.specs.Problems.{Point, Problem, point_at}
 use Rattle.cayley.specs.Cells.{Cell, EachPair, IsFurther}
+use Rattle.cayley.specs.Resting.{rise}
 
--- the value of point x less that of point a under v / den, times den
-abbrev pub rise : ℤ → List ℤ → Point → Point → ℤ
-rise den v a x = den *ℤ (x.base -ℤ a.base) +ℤ dot (sub x.coordinates a.coordinates) v
-
--- each number of that sum fits: the height's part, each product, each partial sum
+-- each number of the sum for point x against point a fits: the height's part, each product, each partial sum
 abbrev pub FitsRise : ℤ → List ℤ → Point → Point → Type 0
 FitsRise den v a x = FitsWhole (den *ℤ (x.base -ℤ a.base)) × FitsDot (den *ℤ (x.base -ℤ a.base)) (sub x.coordinates a.coordinates) v
 

@@ -3,16 +3,13 @@ use Rattle.std.specs.Prelude.{List, [], ◌∷◌, map, ℤ, pos, ◌<ℤ◌, Op
 use Rattle.cayley.specs.Times.{time_zero}
 use Rattle.cayley.specs.Problems.{Problem}
 use Rattle.cayley.specs.Cells.{Cell, IsLess}
-use Rattle.cayley.specs.Normals.{Normal, IsNormal, AllAbove}
+use Rattle.cayley.specs.Normals.{IsNormal, AllAbove}
+use Rattle.cayley.specs.Resting.{normal_over}
 
 -- the cell is greater than that of the line before, if there is one
 abbrev pub Follows : Option Cell → Cell → Type 0
 Follows None cell = Unit {0}
 Follows (Some before) cell = IsLess before cell
-
--- v / den as a list of values
-abbrev pub normal_over : List ℤ → (den : ℤ) → pos 0 <ℤ den → Normal
-normal_over v den positive = record { entries = map (λ x. x ∷ []) v; over = den; positive = positive }
 
 -- v / den makes both points of each pair equal
 abbrev pub IsLevelAt : Problem → Cell → List ℤ → ℤ → Type 0

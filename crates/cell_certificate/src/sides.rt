@@ -3,7 +3,7 @@ ghost use Rattle.int_vectors.specs.Vectors.{Each};
 ghost use Rattle.cayley.specs.Files.{plain_problem};
 ghost use Rattle.cayley.specs.Stored.{file_point};
 ghost use Rattle.cell_certificate.specs.Sides.{seen, IsNear, IsPairOf, FitsSupport, Shows, ShowsAll};
-ghost use Rattle.cell_certificate.specs.Sums as sums;
+ghost use Rattle.cayley.specs.Resting as resting;
 ghost use Rattle.cell_certificate.specs.Sums.{FitsRise, FitsAt, RisesAt, FitsSums};
 ghost use Rattle.cell_certificate.specs.Written.{IsListed};
 
@@ -43,7 +43,7 @@ fn height_above(a: &FilePoint, x: &FilePoint) -> i128
 fn rise(normal: &Normal, a: &FilePoint, x: &FilePoint) -> Option<i128>
     requires a_near { IsNear (length normal.now.v) (file_point a.now) }
     requires x_near { IsNear (length normal.now.v) (file_point x.now) }
-    ensures { SomeIff result (FitsRise normal.now.den normal.now.v (seen a.now) (seen x.now)) (sums.rise normal.now.den normal.now.v (seen a.now) (seen x.now)) }
+    ensures { SomeIff result (FitsRise normal.now.den normal.now.v (seen a.now) (seen x.now)) (resting.rise normal.now.den normal.now.v (seen a.now) (seen x.now)) }
 {
     let start = product(normal.den, height_above(a, x))?;
     sum_at(

@@ -5,7 +5,7 @@ use Rattle.wide_int.specs.Whole.{FitsWhole}
 use Rattle.int_vectors.specs.Vectors.{Each, dot, sub}
 use Rattle.int_vectors.specs.Fits.{FitsDot}
 use Rattle.int_vectors.proofs.DotSteps as steps
-use Rattle.plain_lister.proofs.Rows.{length-sub}
+use Rattle.cayley.proofs.CellRows.{long_sub}
 
 pub each_at : (P : ℤ → Type 0) (xs : List ℤ) (i : ℕ) → i < length xs → Each xs P → P (get_or xs i (pos 0))
 each_at P [] i lt e = absurd (omega arith)
@@ -20,7 +20,7 @@ sub_at (x ∷ c) (y ∷ a) (suc i) lt e = sub_at c a i (omega arith) (omega arit
 
 module _ (start t : ℤ) (a c v : List ℤ) (i : ℕ) (la : length a ≡ length v) (lc : length c ≡ length v) (lt : i < length v) where
   long : i < length (sub c a)
-  long = let e = length-sub (length v) c a lc la in omega (arith, lt, e)
+  long = let e = long_sub (length v) c a lc la in omega (arith, lt, e)
 
   product_is : get_or (sub c a) i (pos 0) *ℤ get_or v i (pos 0) ≡ (get_or c i (pos 0) -ℤ get_or a i (pos 0)) *ℤ get_or v i (pos 0)
   product_is = ap (λ x. x *ℤ get_or v i (pos 0)) (sub_at c a i (omega (arith, lt, lc)) (lc ∙ sym la))
@@ -43,4 +43,4 @@ module _ (start t : ℤ) (a c v : List ℤ) (i : ℕ) (la : length a ≡ length 
 
 pub at_end : (start t : ℤ) (a c v : List ℤ) (i : ℕ) → length a ≡ length v → length c ≡ length v → length v ≤ i → t +ℤ dot (drop i (sub c a)) (drop i v) ≡ start +ℤ dot (sub c a) v
     → (FitsDot t (drop i (sub c a)) (drop i v) → FitsDot start (sub c a) v) → FitsWhole t → FitsDot start (sub c a) v × (t ≡ start +ℤ dot (sub c a) v)
-at_end start t a c v i la lc le e f w = let l = length-sub (length v) c a lc la in steps.at_end start t (sub c a) v i (omega (arith, le, l)) le e f w
+at_end start t a c v i la lc le e f w = let l = long_sub (length v) c a lc la in steps.at_end start t (sub c a) v i (omega (arith, le, l)) le e f w

@@ -1,5 +1,3 @@
-pub mod Gaps
-pub mod Rows
 pub mod Pairs
 pub mod Mixed
 pub mod Still

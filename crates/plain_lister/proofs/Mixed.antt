@@ -10,10 +10,10 @@ use Rattle.cayley.specs.Mixed.{IsAlive}
 use Rattle.cayley.proofs.Gaps.{gap_two}
 use Rattle.cayley.proofs.Proportion.{in_proportion}
 use Rattle.cayley.specs.Rows.{edge_rows}
-use Rattle.plain_lister.specs.Workings.{rise}
-use Rattle.plain_lister.proofs.Gaps.{values, normal_over, positive_gap, zero_gap}
-use Rattle.plain_lister.proofs.Rows.{InRange, each_position, level_from}
 use Rattle.plain_lister.proofs.Pairs.{pairs_both, pairs_each}
+use Rattle.cayley.specs.Resting.{rise, normal_over}
+use Rattle.cayley.proofs.RestingGaps.{values, positive_gap, zero_gap, level_from}
+use Rattle.cayley.proofs.CellRows.{InRange, each_position}
 
 length-values : (ps : List ℤ) → length (values ps) ≡ length ps
 length-values [] = refl

@@ -21,13 +21,13 @@ use Rattle.cayley.specs.Rows.{unit_row, edge_rows_from, edge_rows}
 use Rattle.cayley.specs.Valid.{IsValidProblem}
 use Rattle.plain_lister.specs.Lists.{HasNoCorners, IsLowestForm}
 use Rattle.plain_lister.specs.Workings.{denominator, resting_part, FitsWall, FitsWalls, FitsRest, FitsWorking, FitsSupport, SupportRises}
-use Rattle.plain_lister.proofs.Gaps.{normal_over}
-use Rattle.plain_lister.proofs.Rows.{InRange, HaveLength, edge_long, each_position, edges_independent, independent_from, length-edge_rows}
 use Rattle.plain_lister.proofs.Pairs.{pairs_map, pairs_both, pairs_each}
 use Rattle.plain_lister.proofs.Mixed.{own_normal, alive_to, alive_from}
 use Rattle.plain_lister.proofs.Still.{NoEntry, spanned_column, no_shares, no_speeds, still_wall}
 use Rattle.plain_lister.proofs.Plain.{even_of, resting_of, own_points}
 use Rattle.plain_lister.proofs.Lowest.{same_value}
+use Rattle.cayley.specs.Resting.{normal_over}
+use Rattle.cayley.proofs.CellRows.{InRange, HaveLength, edge_long, each_position, rows_independent, pairs_from_rows, length-rows}
 
 length-unit_row : (n i : ℕ) → length (unit_row n i) ≡ n
 length-unit_row n i = length-set (replicate n (pos 0)) i (pos 1) ∙ length-replicate n (pos 0)
@@ -45,7 +45,7 @@ each_longer n m [] h e = tt
 each_longer n m (row ∷ rows) h e = (let f = e.0 in omega (arith, h, f), each_longer n m rows h e.1)
 
 pub rows_count : (p : Problem) (cell : Cell) → IsValidProblem p → IsOf p cell → length (edge_rows p cell) ≡ p.dimension
-rows_count p cell valid of = length-edge_rows p.dimension 0 p.supports cell _ of ∙ valid.shape.problem.supports
+rows_count p cell valid of = length-rows p.dimension 0 p.supports cell _ of ∙ valid.shape.problem.supports
 
 pub rows_lengths : (p : Problem) (cell : Cell) → IsValidProblem p → IsOf p cell → (m : ℕ) × (p.dimension ≤ m) × OfLength m (edge_rows p cell)
 rows_lengths p cell valid of = (p.dimension + suc (suc p.dimension), omega arith, rows_long p.dimension 0 p.supports cell valid.shape.problem.points of)
@@ -55,14 +55,14 @@ module _ (p : Problem) (cell : Cell) (valid : IsValidProblem p) (alone : HasNoCo
   pub not_mixed : (kernel : List ℤ) → IsKernelOf p.dimension (edge_rows p cell) kernel → ¬ (IsMixedCell p cell)
   not_mixed kernel k mixed =
       let alive = subst (λ q. IsAlive q cell time_zero) (own_points p valid alone) mixed in
-      k.other (alive.1 kernel k.long (independent_from p.dimension 0 p.supports cell kernel k.long valid.shape.problem.points of k.orthogonal))
+      k.other (alive.1 kernel k.long (pairs_from_rows p.dimension 0 p.supports cell kernel k.long valid.shape.problem.points of k.orthogonal))
 
   module _ (made : List (List ℤ)) (red : IsReducedOf p.dimension (edge_rows p cell) made) where
     pub column_inside : Each made (λ row. p.dimension < length row)
     column_inside = each_longer p.dimension (p.dimension + suc (suc p.dimension)) made (omega arith) (red.long _ (rows_long p.dimension 0 p.supports cell valid.shape.problem.points of))
 
     ind : IsIndependent p cell
-    ind = edges_independent p cell valid.shape.problem of red.independent
+    ind = rows_independent p cell valid.shape.problem of red.independent
 
     still : NoEntry (suc p.dimension) made
     still = spanned_column (suc p.dimension) (edge_rows p cell) made (no_speeds p.dimension 0 p.supports cell valid.shape.problem.points (resting_of p valid alone) of) red.span.1

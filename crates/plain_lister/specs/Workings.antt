@@ -8,6 +8,7 @@ use Rattle.reduced_rows.specs.Steps.{elimination, FitsElimination}
 use Rattle.cayley.specs.Problems.{Point, Problem, point_at}
 use Rattle.cayley.specs.Cells.{Cell, EachPair, IsFurther}
 use Rattle.cayley.specs.Rows.{edge_rows}
+use Rattle.cayley.specs.Resting.{rise}
 
 -- the common denominator of a normal: the least common multiple of the pivots
 abbrev pub denominator : List (List ℤ) → ℕ
@@ -47,11 +48,7 @@ abbrev pub FitsWorking : Problem → Cell → Type 0
 FitsWorking p cell = FitsElimination p.dimension (edge_rows p cell)
     × ((made : List (List ℤ)) → elimination p.dimension (edge_rows p cell) ≡ Ok made → FitsRest p cell made)
 
--- the sum for point c against point a: its sign tells whether c is above, level or below
-abbrev pub rise : ℤ → List ℤ → Point → Point → ℤ
-rise den ps a c = den *ℤ (c.base -ℤ a.base) +ℤ dot (sub c.coordinates a.coordinates) ps
-
--- the numbers of that sum fit
+-- the numbers of the sum for point c against point a fit
 abbrev pub FitsRise : ℤ → List ℤ → Point → Point → Type 0
 FitsRise den ps a c = FitsSum (den *ℤ (c.base -ℤ a.base)) (sub c.coordinates a.coordinates) ps
 

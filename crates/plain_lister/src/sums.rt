@@ -4,7 +4,7 @@ ghost use Rattle.int_vectors.specs.Fits.{FitsDot};
 ghost use Rattle.int_vectors.specs.Vectors.{Each, sub, dot};
 ghost use Rattle.cayley.specs.Stored.{point};
 ghost use Rattle.cayley.specs.Valid.{IsCoordinate, IsWithinProblem};
-ghost use Rattle.plain_lister.specs.Workings as workings;
+ghost use Rattle.cayley.specs.Resting as resting;
 ghost use Rattle.plain_lister.specs.Workings.{FitsRise};
 
 use cayley::Point;
@@ -50,7 +50,7 @@ pub(crate) fn rise(den: i128, v: &IntVec, a: &Point, c: &Point) -> Option<i128>
     requires c_length { length c.now.coords ≡ length v.now }
     requires a_within { IsWithinProblem (point a.now) }
     requires c_within { IsWithinProblem (point c.now) }
-    ensures { SomeIff result (FitsRise den v.now (point a.now) (point c.now)) (workings.rise den v.now (point a.now) (point c.now)) }
+    ensures { SomeIff result (FitsRise den v.now (point a.now) (point c.now)) (resting.rise den v.now (point a.now) (point c.now)) }
 {
     let start = scaled_height(den, a.base, c.base)?;
     dot_between(

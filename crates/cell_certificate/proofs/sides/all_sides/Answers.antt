@@ -3,12 +3,13 @@ use Rattle.cayley.specs.Stored.{file_point}
 use Rattle.cayley.specs.Files.{plain_problem}
 use Rattle.cayley.specs.Problems.{point_at}
 use Rattle.cell_certificate.specs.Sides.{FitsSupport, Shows}
-use Rattle.cell_certificate.specs.Sums.{rise, RisesAt}
+use Rattle.cell_certificate.specs.Sums.{RisesAt}
 use Rattle.cell_certificate.proofs.Supports.{supports_count, support_is, near_is, pair_is, cell_count}
 use Rattle.cell_certificate.proofs.Turns.{left_not, left_more, known_more, left_none, known_all}
 use Rattle.cell_certificate.proofs.Levels.{even_of, level_to, level_from, least_to, least_from}
 use Rattle.cell_certificate.proofs.Together.{together, apart}
 use Rattle.cell_certificate.proofs.sides.all_sides.Goals as goal
+use Rattle.cayley.specs.Resting.{rise}
 
 pub sides_of-requires-clause-near : goal.sides_of-requires-clause-near
 sides_of-requires-clause-near c =

@@ -4,8 +4,9 @@ use Rattle.cayley.specs.Problems.{point_at}
 use Rattle.cayley.specs.Cells.{EachPair}
 use Rattle.cayley.specs.Files.{plain_problem}
 use Rattle.cell_certificate.specs.Sides.{FitsSupport}
-use Rattle.cell_certificate.specs.Sums.{rise, RisesAt}
+use Rattle.cell_certificate.specs.Sums.{RisesAt}
 use Rattle.cell_certificate.proofs.sides.all_sides.Given as goal
+use Rattle.cayley.specs.Resting.{rise}
 
 abbrev pub invariant-loop-k : goal.invariant-loop-k
 invariant-loop-k l =

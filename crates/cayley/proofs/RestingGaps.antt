@@ -1,13 +1,16 @@
 -- at time zero, over heights of rank 0, a gap is one number
-use Rattle.std.proofs.Common.{◌≡◌, ◌↔◌, ◌⊎◌, inl, inr, List, [], ◌∷◌, map, arith, refl, sym, ap, ap₂, subst, ◌∙◌, ◌<ℤ◌}
+use Rattle.std.proofs.Common.{◌≡◌, ◌↔◌, ◌⊎◌, inl, inr, ℕ, List, [], ◌∷◌, ◌++◌, length, map, arith, refl, sym, ap, ap₂, subst, ◌∙◌, ◌<ℤ◌}
 use Rattle.std.proofs.lemmas.Int.{ints}
-use Rattle.std.proofs.Math.IntN.{ℤ, pos, ◌+ℤ◌, ◌-ℤ◌, ◌*ℤ◌, neg_ℤ}
-use Rattle.int_vectors.specs.Vectors.{IsZero, add, sub, scale, dot, comb}
+use Rattle.std.proofs.Math.IntN.{ℤ, pos, ◌+ℤ◌, ◌-ℤ◌, ◌*ℤ◌, neg_ℤ, *ℤ_comm}
+use Rattle.int_vectors.specs.Vectors.{IsZero, add, sub, scale, dot, comb, IsOrthogonal}
 use Rattle.cayley.specs.Times.{time_zero, IsPositive}
-use Rattle.cayley.specs.Problems.{Point}
+use Rattle.cayley.specs.Problems.{Point, point_at}
+use Rattle.cayley.specs.Cells.{Cell, EachPair}
+use Rattle.cayley.specs.Rows.{edge_rows_from}
 use Rattle.cayley.specs.Normals.{height, gap}
-use Rattle.cell_certificate.specs.Sums.{rise}
-use Rattle.cell_certificate.specs.Tests.{normal_over}
+use Rattle.cayley.specs.Resting.{normal_over, rise}
+use Rattle.cayley.proofs.CellRows.{HaveLength, InRange, pairs_orthogonal}
+use Rattle.cayley.proofs.Soon.{each_pair-map}
 
 -- a list of numbers as a list of values
 abbrev pub values : List ℤ → List (List ℤ)
@@ -54,3 +57,14 @@ positive_gap ps den h a c ra rc =
 pub zero_gap : (ps : List ℤ) (den : ℤ) (h : pos 0 <ℤ den) (a c : Point) → a.rank ≡ 0 → c.rank ≡ 0
     → rise den ps a c ≡ pos 0 → IsZero (gap time_zero (normal_over ps den h) a c)
 zero_gap ps den h a c ra rc z = subst IsZero (sym (gap_is ps den h a c ra rc)) (z, tt)
+
+-- a solution of a cell's rows makes both points of each pair equal
+pub level_from : (n i : ℕ) (supports : List (List Point)) (cell : Cell) (ps : List ℤ) (den : ℤ) → length ps ≡ n → HaveLength n supports → EachPair supports cell InRange
+    → IsOrthogonal (edge_rows_from n i supports cell) (ps ++ (den ∷ [])) → EachPair supports cell (λ s a b. rise den ps (point_at s a) (point_at s b) ≡ pos 0)
+level_from n i supports cell ps den l well of e =
+    each_pair-map supports cell _ _
+    (λ s a b h. turned (dot (sub (point_at s b).coordinates (point_at s a).coordinates) ps) ((point_at s b).base -ℤ (point_at s a).base) den h)
+    (pairs_orthogonal n i supports cell ps (den ∷ []) l (omega arith) well of e)
+  where
+    turned : (s x d : ℤ) → s +ℤ (x *ℤ d +ℤ pos 0) ≡ pos 0 → d *ℤ x +ℤ s ≡ pos 0
+    turned s x d z = let c = *ℤ_comm d x in omega (arith, ints, c, z)
