@@ -7,6 +7,7 @@ pub mod Turning
 pub mod Picking
 pub mod Listed
 pub mod Shown
+pub mod Kept
 pub mod Between
 pub mod Plain
 pub mod Rising

@@ -38,8 +38,9 @@ rows_read : (n a k : ℕ) → map places_pair (flat_map (λ d. map (λ ds. d ∷
 rows_read n a zero = refl
 rows_read n a (suc k) =
     let e : n + 1 + 1 - 2 - (a + 1) ≡ n - (a + 1) = omega arith in
-    map-append places_pair (map (λ ds. a ∷ ds) (flat_map (λ e. map (λ ds. e ∷ ds) ([] ∷ [])) (numbers (a + 1) (n + 1 + 1 - 2 - (a + 1))))) _
-    ∙ ap₂ (λ x y. x ++ y) {y = map (λ b. (a + 1, b)) (range_with_len (a + 1 + 1) (n - (a + 1)))} (row_read a (a + 1) (n + 1 + 1 - 2 - (a + 1)) ∙ ap (λ j. map (λ b. (a + 1, b)) (range_with_len (a + 1 + 1) j)) e) (rows_read n (a + 1) k)
+    let row : map places_pair (map (λ ds. a ∷ ds) (ways ascending_low (ascending_high n 2) 1 ([] ++ a ∷ []))) ≡ map (λ b. (a + 1, b)) (range_with_len (a + 1 + 1) (n - (a + 1))) =
+    rw (sym e) (row_read a (a + 1) (n + 1 + 1 - 2 - (a + 1))) in
+    rw (map-append places_pair (map (λ ds. a ∷ ds) (ways ascending_low (ascending_high n 2) 1 ([] ++ a ∷ []))) _, row, rows_read n (a + 1) k) refl
 
 pub ways_pairs : (n : ℕ) → map places_pair (ways ascending_low (ascending_high n 2) 2 []) ≡ all_pairs n
 ways_pairs n =

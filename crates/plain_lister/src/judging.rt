@@ -7,9 +7,11 @@ ghost use Rattle.plain_lister.specs.Workings.{FitsRest, FitsWorking};
 ghost use Rattle.reduced_rows.specs.Refusals.{IsFromFault};
 ghost use Rattle.reduced_rows.specs.Spans.{IsReducedOf};
 
+use crate::edges::copied;
 use crate::normals::lowest;
 use crate::rises::all_rise;
 use cayley::{Cell, Normal, Problem};
+use int_vectors::IntVec;
 use reduced_rows::{FromFault, ReduceFault, Reduced, reduce};
 use std::alloc::Global;
 
@@ -42,20 +44,22 @@ fn judge_reduced(
     }
 }
 
-/// The cell's normal in lowest terms, where it is a mixed cell.
+/// The cell's normal in lowest terms, where it is a mixed cell. `edges` are its rows.
 pub(crate) fn judge(
     alloc: Global,
     problem: &Problem,
     cell: &Cell,
+    edges: &[IntVec],
 ) -> Result<Option<Normal>, FromFault>
     requires valid { IsValidProblem problem.now }
     requires alone { HasNoCorners problem.now }
     requires of { IsOf problem.now cell.now }
+    requires edges { edges.now ≡ rows.edge_rows problem.now cell.now }
     ensures { MatchResult result
         (λ judged. FitsWorking problem.now cell.now × IsJudged problem.now cell.now judged)
         (IsFromFault (FitsWorking problem.now cell.now)) }
 {
-    let Ok(rows) = problem.edge_rows(alloc, cell) else {
+    let Ok(rows) = copied(alloc, edges) else {
         return Err(FromFault::OutOfMemory);
     };
     match reduce(alloc, rows, problem.dim()) {

@@ -4,6 +4,7 @@
 
 mod choices;
 mod counting;
+mod edges;
 mod faults;
 mod judging;
 mod lists;

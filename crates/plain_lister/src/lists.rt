@@ -1,6 +1,7 @@
 ghost use Rattle.std.specs.Prelude.{◌≡◌, ◌<◌, ◌≤◌, ◌+◌, ◌↔◌, ℕ, Bool, IsTrue, List, map, length, MatchResult, IfOk, IfErr};
 ghost use Rattle.cayley.specs.Mixed.{IsMixedCell};
 ghost use Rattle.cayley.specs.Cells.{IsListOf};
+ghost use Rattle.cayley.specs.Rows.{edge_rows};
 ghost use Rattle.cayley.specs.Valid.{IsValidProblem};
 ghost use Rattle.int_vectors.specs.Vectors.{Each};
 ghost use Rattle.plain_lister.specs.Choices.{HasTooMany, HavePairs};
@@ -11,10 +12,12 @@ ghost use Rattle.plain_lister.specs.Progress.{IsDone, Before, Tried, IsSearchFau
 
 use crate::choices::advance;
 use crate::counting::{counts_of, excess, have_pairs};
+use crate::edges::{renew, rows_of};
 use crate::faults::PlainFault;
 use crate::trying::try_choice;
 use crate::wheels::{Wheel, wheels_of};
 use cayley::{FoundCell, Problem};
+use int_vectors::IntVec;
 use std::alloc::{AllocError, Global};
 
 // Tries this choice, goes to the next one, and tells whether there is one.
@@ -23,6 +26,7 @@ fn turn(
     problem: &Problem,
     wheels: &mut [Wheel],
     pairs: &mut [(u32, u32)],
+    edges: &mut [IntVec],
     found: &mut Vec<FoundCell>,
 ) -> Result<bool, PlainFault>
     ghost counts: { List ℕ }
@@ -31,17 +35,21 @@ fn turn(
     requires counts { counts ≡ map length problem.now.supports }
     requires choice { IsChoice counts pairs.old }
     requires shown { Show counts wheels.old pairs.old }
+    requires edges { edges.old ≡ edge_rows problem.now pairs.old }
     requires done { IsDone problem.now (Before pairs.old) found.old.items }
     ensures { MatchResult result
-        (λ going. (IsTrue going → IsChoice counts pairs.new × Show counts wheels.new pairs.new) × IsDone problem.now (Tried going pairs.new) found.new.items
+        (λ going. (IsTrue going → IsChoice counts pairs.new × Show counts wheels.new pairs.new × (edges.new ≡ edge_rows problem.now pairs.new)) × IsDone problem.now (Tried going pairs.new) found.new.items
         × steps_left going counts pairs.new < left_after counts pairs.old + 1)
         (IsSearchFault problem.now) }
 {
-    if let Err(fault) = try_choice(alloc, problem, pairs, found) {
+    if let Err(fault) = try_choice(alloc, problem, pairs, edges, found) {
         return Err(fault);
     }
     match advance(wheels, pairs) {
-        Some(_) => Ok(true),
+        Some(place) => match renew(alloc, problem, pairs, place, edges) {
+            Ok(()) => Ok(true),
+            Err(_) => Err(PlainFault::OutOfMemory),
+        },
         None => Ok(false),
     }
 }
@@ -76,10 +84,20 @@ fn list_choices(
     let Ok(mut wheels) = wheels_of(alloc, counts) else {
         return Err(PlainFault::OutOfMemory);
     };
+    let Ok(mut edges) = rows_of(alloc, problem, &pairs) else {
+        return Err(PlainFault::OutOfMemory);
+    };
     let mut found = Vec::new(alloc);
     let mut going = true;
     while going {
-        match turn(alloc, problem, &mut wheels, &mut pairs, &mut found) {
+        match turn(
+            alloc,
+            problem,
+            &mut wheels,
+            &mut pairs,
+            &mut edges,
+            &mut found,
+        ) {
             Ok(on) => going = on,
             Err(fault) => return Err(fault),
         }

@@ -1,10 +1,16 @@
-use Rattle.std.proofs.Common.{rules, refl, subst, subst₂, sym}
+use Rattle.std.proofs.Common.{◌∙◌, ap, rules, refl, subst, subst₂, sym}
 use Rattle.std.specs.Prelude.{IsTrue}
+use Rattle.cayley.specs.Rows.{edge_rows}
 use Rattle.plain_lister.specs.Order.{IsChoice}
 use Rattle.plain_lister.specs.Wheels.{Show}
 use Rattle.plain_lister.proofs.Odometer.{firsts_choice}
-use Rattle.plain_lister.proofs.Growing.{begun, going_on, gone_through}
+use Rattle.plain_lister.proofs.Growing.{choice_to, begun, going_on, gone_through}
 use Rattle.plain_lister.proofs.lists.list_choices.Goals as goal
+
+pub rows_of-requires-clause-of : goal.rows_of-requires-clause-of
+rows_of-requires-clause-of c =
+    choice_to c.args.problem.now.supports c.deref.result.now
+    (subst₂ IsChoice c.requires.counts (sym (c.deref.ensures.value ∙ c.in-Ok.ensures)) (firsts_choice c.args.counts.now c.requires.pairs))
 
 pub loop-going-init : goal.loop-going-init
 loop-going-init c =
@@ -13,6 +19,7 @@ loop-going-init c =
       choice = λ t. (
         subst (IsChoice c.args.counts.now) (sym c.in-Ok.ensures) (firsts_choice c.args.counts.now r.pairs),
         subst (Show c.args.counts.now c.in-Ok-wheels_of.wheels.items) (sym c.in-Ok.ensures) c.in-Ok-wheels_of.ensures,
+        c.in-Ok-rows_of.ensures ∙ ap (edge_rows c.args.problem.now) c.deref.ensures.value,
       );
       done = begun c.args.problem.now r.valid r.alone c.args.counts.now r.counts c.in-Ok.pairs.items c.new-found.result.items c.in-Ok.ensures c.new-found.ensures.items;
     }
@@ -23,6 +30,7 @@ turn-requires c =
     let i = c.loop-going.invariant in
     let wheels = c.deref_mut.ensures.value in
     let pairs = c.deref_mut-in-loop-going.ensures.value in
+    let edges = c.deref_mut-in-loop-going-2.ensures.value in
     let counts = c.requires.counts in (
       c.requires.valid,
       (
@@ -33,7 +41,10 @@ turn-requires c =
             subst₂ IsChoice counts (sym pairs) (i.choice t).0,
             (
               subst₂ (λ m w. Show m w c.deref_mut-in-loop-going.result.now) counts (sym wheels) (subst (Show c.args.counts.now c.loop-going.wheels.items) (sym pairs) (i.choice t).1),
-              going_on c.args.problem.now c.loop-going.going c.loop-going.pairs.items c.deref_mut-in-loop-going.result.now c.loop-going.found.items t pairs i.done,
+              (
+                edges ∙ (i.choice t).2 ∙ ap (edge_rows c.args.problem.now) (sym pairs),
+                going_on c.args.problem.now c.loop-going.going c.loop-going.pairs.items c.deref_mut-in-loop-going.result.now c.loop-going.found.items t pairs i.done,
+              ),
             ),
           ),
         ),
