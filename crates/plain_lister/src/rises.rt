@@ -3,7 +3,6 @@ ghost use Rattle.cayley.specs.Cells.{EachPair, IsFurther, IsOf};
 ghost use Rattle.cayley.specs.Problems.{point_at};
 ghost use Rattle.cayley.specs.Valid.{IsValidProblem, support_at};
 ghost use Rattle.plain_lister.specs.Lists.{HasNoCorners};
-ghost use Rattle.plain_lister.specs.Workings as workings;
 ghost use Rattle.plain_lister.specs.Workings.{FitsRise, FitsFurther, FurtherRises, FitsSupport, SupportRises};
 
 use crate::sums::rise;
