@@ -1,5 +1,5 @@
 -- What `check` replies is one answer of the checker, and what that answer says.
-use Rattle.std.proofs.Common.{◌≡◌, ◌⊎◌, ℕ, ◌∙◌, List, Result, Ok, Err, None, refl, sym, ap, subst, arith, inl, inr}
+use Rattle.std.proofs.Common.{◌≡◌, ℕ, ◌∙◌, List, Ok, Err, None, refl, sym, ap, subst, arith, inl, inr}
 use Rattle.cayley.specs.Files.{plain_problem}
 use Rattle.support_text.specs.declared.fault.FormatFault.{FormatFault}
 use Rattle.listing_text.specs.declared.listing.Listing.{Listing}

@@ -1,5 +1,5 @@
 -- What follows from how a run ended.
-use Rattle.std.proofs.Common.{◌≡◌, ◌≢◌, ◌⊎◌, ◌∙◌, ℕ, ◌+◌, ◌≤◌, ◌<◌, ◌++◌, List, [], length, take, Option, Some, None, codes, refl, sym, ap, subst, arith, inl, inr, ⊎_elim, length-append}
+use Rattle.std.proofs.Common.{◌≡◌, ◌∙◌, ℕ, ◌+◌, ◌≤◌, List, length, take, Option, Some, None, codes, refl, sym, ap, subst, arith, inl, inr, ⊎_elim, length-append}
 use Rattle.std.specs.Io.KnownBytes.{Appends, Consumes}
 use Rattle.edge_io.specs.Faults.{Rose}
 use Rattle.mixedcells_cli.specs.Words.{HasMeaning}

@@ -1,8 +1,8 @@
 -- What the words and the input call for is one outcome.
-use Rattle.std.proofs.Common.{◌≡◌, ◌⊎◌, ◌↔◌, ℕ, ◌<◌, ◌≤◌, ◌∙◌, List, [], ◌∷◌, length, Option, Some, None, Result, Ok, Err, codes, take, refl, sym, ap, ap₂, subst, arith, inl, inr, ⊎_elim}
+use Rattle.std.proofs.Common.{◌≡◌, ◌⊎◌, ℕ, ◌<◌, ◌≤◌, ◌∙◌, List, [], ◌∷◌, length, Option, Some, Ok, take, refl, sym, ap, subst, arith, inl, inr}
 use native.Mathlib.Decide.{ℕ_discrete, dec_lt}
 use Rattle.cayley.specs.Problems.{Problem}
-use Rattle.cayley.specs.Cells.{Cell, IsLess, IsOf}
+use Rattle.cayley.specs.Cells.{Cell}
 use Rattle.cayley.specs.Files.{File, plain_problem}
 use Rattle.cayley.proofs.Listing.{compare_cells}
 use Rattle.support_text.specs.declared.fault.FormatFault.{FormatFault}
@@ -14,10 +14,10 @@ use Rattle.mixedcells_cli.specs.declared.words.Command.{Command}
 use Rattle.mixedcells_cli.specs.declared.words.Command.TheVariants as verb
 use Rattle.mixedcells_cli.specs.declared.outcome.Outcome.{Outcome}
 use Rattle.mixedcells_cli.specs.declared.outcome.Outcome.TheVariants as variant
-use Rattle.mixedcells_cli.specs.Words.{Means, HasMeaning}
+use Rattle.mixedcells_cli.specs.Words.{Means}
 use Rattle.mixedcells_cli.specs.Outcomes.{status_of}
-use Rattle.mixedcells_cli.specs.Answers.{limit, IsListReply, IsPlainReply, IsReply, TellsFault}
-use Rattle.mixedcells_cli.specs.Runs.{IsAnswer, IsInput, IsCalledFor, IsFree}
+use Rattle.mixedcells_cli.specs.Answers.{limit, IsListReply, IsPlainReply, IsReply}
+use Rattle.mixedcells_cli.specs.Runs.{IsAnswer, IsCalledFor, IsFree}
 use Rattle.mixedcells_cli.proofs.Readings.{ok_once, err_once, not_both}
 use Rattle.mixedcells_cli.proofs.Checks.{one_check_reply}
 

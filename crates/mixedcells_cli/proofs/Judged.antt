@@ -1,5 +1,5 @@
 -- What a run of `check` has answered.
-use Rattle.std.proofs.Common.{◌≡◌, ◌⊎◌, ℕ, ◌≤◌, List, length, Option, Some, sym, subst, arith, inl, inr}
+use Rattle.std.proofs.Common.{◌≡◌, ◌⊎◌, ℕ, ◌≤◌, List, length, Option, Some, subst, arith, inl, inr}
 use Rattle.listing_text.specs.declared.listing.Listing.{Listing}
 use Rattle.cell_certificate.specs.Answers.{IsTooLarge}
 use Rattle.cell_certificate.specs.Written.{AreMixed}

@@ -2,7 +2,7 @@
 use Rattle.std.proofs.Common.{◌≡◌, ℕ, suc, List, [], ◌∷◌, map, length, subst}
 use Rattle.std.proofs.lemmas.List.{length-map}
 use Rattle.int_vectors.specs.Vectors.{Each}
-use Rattle.cayley.specs.Problems.{Problem, version1, EachSupport}
+use Rattle.cayley.specs.Problems.{Problem, EachSupport}
 use Rattle.cayley.specs.Cells.{IsListOf}
 use Rattle.cayley.specs.Mixed.{IsMixedCell}
 use Rattle.cayley.specs.Files.{File, FilePoint, resting, plain_problem}

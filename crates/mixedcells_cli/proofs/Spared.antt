@@ -1,13 +1,13 @@
 -- A listing as a lister wrote it is read back, and `check` spares it.
-use Rattle.std.proofs.Common.{◌≡◌, ℕ, suc, ◌-◌, ◌^◌, ◌<◌, ◌≤◌, ◌∙◌, ℤ, pos, negsuc, neg_ℤ, ◌≤ℤ◌, ◌<ℤ◌, List, [], ◌∷◌, map, length, Result, Ok, Err, refl, sym, ap, subst, arith, inl, inr}
+use Rattle.std.proofs.Common.{◌≡◌, ℕ, suc, ◌-◌, ◌^◌, ◌<◌, ◌≤◌, ◌∙◌, ℤ, pos, neg_ℤ, ◌≤ℤ◌, ◌<ℤ◌, List, [], ◌∷◌, map, length, Ok, Err, refl, sym, ap, subst, arith, inl, inr}
 use Rattle.std.specs.Prelude.{Contains, unsigned_abs}
 use Rattle.std.proofs.lemmas.Int.{ints}
 use Rattle.std.proofs.lemmas.List.{length-map}
 use Rattle.wide_int.specs.Whole.{FitsWhole}
 use Rattle.int_vectors.specs.Vectors.{Each, at}
 use Rattle.cayley.specs.Times.{time_zero}
-use Rattle.cayley.specs.Problems.{Problem, Point, point_at}
-use Rattle.cayley.specs.Cells.{Cell, IsOf, EachPair, IsFurther, IsListOf, IsSorted}
+use Rattle.cayley.specs.Problems.{Problem, point_at}
+use Rattle.cayley.specs.Cells.{Cell, IsOf, EachPair, IsFurther, IsSorted}
 use Rattle.cayley.specs.Normals.{Normal, IsNormal}
 use Rattle.cayley.specs.Mixed.{IsAlive, IsMixedCell, IsLowestNormal, HasFirstEntries}
 use Rattle.cayley.specs.Files.{File, FilePoint, resting, plain_problem}
@@ -16,7 +16,6 @@ use Rattle.cayley.specs.declared.found.FoundCell.{FoundCell}
 use Rattle.cayley.proofs.CellNormals.{length-scale}
 use Rattle.cayley.proofs.Lists.{map_map, each_unmap, each_weaker}
 use Rattle.cayley.proofs.PlainProblems.{plain_is}
-use Rattle.support_text.specs.ProblemText.{problem_of}
 use Rattle.listing_text.specs.declared.listing.Listing.{Listing}
 use Rattle.listing_text.specs.declared.listing.ListedCell.{ListedCell}
 use Rattle.listing_text.specs.ListingText.{Listed, counts_of, listing_of}
