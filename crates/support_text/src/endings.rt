@@ -1,5 +1,5 @@
 // What stands behind the last support: start lines and `end`.
-ghost use Rattle.std.specs.Prelude.{◌≡◌, ◌≤◌, ◌<◌, ◌-◌, ◌^◌, ◌∷◌, [], ℤ, pos, ◌≤ℤ◌, map, codes, false};
+ghost use Rattle.std.specs.Prelude.{◌≡◌, ◌≢◌, ◌≤◌, ◌<◌, ◌-◌, ◌^◌, ◌∷◌, [], ℤ, pos, ◌≤ℤ◌, map, codes, false, IfErr};
 ghost use Rattle.std.specs.Option.{option_map};
 ghost use Rattle.support_text.specs.Faults.{Gives, series};
 ghost use Rattle.support_text.specs.Words as spec;
@@ -112,7 +112,8 @@ fn starts(
 
 #[tactic(auto, unfolding(crate::specs::ProblemText::end_line))]
 fn end_line(line: &mut Line) -> Result<(), TextFault>
-    ensures { Gives (λ done. tt) result (format.end_line line.old.number (words line.old)) }
+    ensures reading { Gives (λ done. tt) result (format.end_line line.old.number (words line.old)) }
+    ensures memory { IfErr result (λ e. e ≢ TextFault.OutOfMemory) }
 {
     word(line, b"end", Kind::Extra)?;
     nothing_more(line, Kind::Extra)
@@ -123,6 +124,7 @@ fn end_line(line: &mut Line) -> Result<(), TextFault>
 pub fn end(lines: &mut Lines) -> Result<(), TextFault>
     ensures reading { Gives (λ done. (tt, lines.new.rows)) result (spec.next_line format.end_line lines.old.end_line lines.old.rows) }
     ensures end_line { lines.new.end_line ≡ lines.old.end_line }
+    ensures memory { IfErr result (λ e. e ≢ TextFault.OutOfMemory) }
 {
     let mut line = next_line(lines)?;
     end_line(&mut line)

@@ -43,7 +43,12 @@ impl Gathered {
     }
 
     // Adds the point of a line. Its fault is that it repeats the coordinates of an earlier point.
-    pub(crate) fn add(&mut self, alloc: Global, line: u64, point: FilePoint) -> Result<(), TextFault>
+    pub(crate) fn add(
+        &mut self,
+        alloc: Global,
+        line: u64,
+        point: FilePoint,
+    ) -> Result<(), TextFault>
         ensures { Gives (λ done. self.new) result
             (if is_among point.coords self.old then Err (fault line Kind.Repeated) else Ok (self.old ++ file_point point ∷ [])) }
     {

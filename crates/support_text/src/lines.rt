@@ -1,5 +1,5 @@
 // The words of a line from left to right, and the next line with words.
-ghost use Rattle.std.specs.Prelude.{◌≡◌, ◌≤ℤ◌, ◌∷◌, [], IfOk, MatchResult};
+ghost use Rattle.std.specs.Prelude.{◌≡◌, ◌≤ℤ◌, ◌∷◌, [], ◌≢◌, IfOk, IfErr, MatchResult};
 ghost use Rattle.support_text.specs.Faults.{Gives, fault};
 ghost use Rattle.support_text.specs.Words as spec;
 ghost use Rattle.support_text.specs.Words.{words};
@@ -12,6 +12,7 @@ use line_text::{BadNumber, Line, Lines, read_int};
 pub fn word(line: &mut Line, text: &[u8], kind: Kind) -> Result<(), TextFault>
     ensures reading { Gives (λ done. words line.new) result (spec.word text.now kind line.old.number (words line.old)) }
     ensures number { line.new.number ≡ line.old.number }
+    ensures memory { IfErr result (λ e. e ≢ TextFault.OutOfMemory) }
 {
     let Some(token) = line.next_token() else {
         return Err(fault_at(line.number(), kind));
@@ -36,6 +37,7 @@ pub fn number(
     ensures reading { Gives (λ z. (z, words line.new)) result (spec.number low high wrong outside line.old.number (words line.old)) }
     ensures within { IfOk result (λ z. (low ≤ℤ z) × (z ≤ℤ high)) }
     ensures number { line.new.number ≡ line.old.number }
+    ensures memory { IfErr result (λ e. e ≢ TextFault.OutOfMemory) }
 {
     let Some(token) = line.next_token() else {
         return Err(fault_at(line.number(), wrong));
@@ -52,6 +54,7 @@ pub fn number(
 pub fn nothing_more(line: &mut Line, kind: Kind) -> Result<(), TextFault>
     ensures reading { Gives (λ done. tt) result (spec.nothing_more kind line.old.number (words line.old)) }
     ensures number { line.new.number ≡ line.old.number }
+    ensures memory { IfErr result (λ e. e ≢ TextFault.OutOfMemory) }
 {
     match line.next_token() {
         None => Ok(()),

@@ -1,5 +1,5 @@
 // Problem files, read from their bytes.
-ghost use Rattle.std.specs.Prelude.{◌≡◌};
+ghost use Rattle.std.specs.Prelude.{◌≡◌, ◌≢◌, IfErr};
 ghost use Rattle.support_text.specs.Faults.{Gives};
 ghost use Rattle.support_text.specs.ProblemText as format;
 ghost use Rattle.support_text.specs.ProblemText.{problem_at, problem_of};
@@ -29,7 +29,8 @@ pub fn read_problem_lines(alloc: Global, lines: &mut Lines) -> Result<LiftFile, 
 /// No line with words may be left.
 #[tactic(auto, unfolding(crate::specs::ProblemText::no_line))]
 pub fn no_line(lines: &mut Lines) -> Result<(), TextFault>
-    ensures { Gives (λ done. tt) result (format.no_line lines.old.rows) }
+    ensures reading { Gives (λ done. tt) result (format.no_line lines.old.rows) }
+    ensures memory { IfErr result (λ e. e ≢ TextFault.OutOfMemory) }
 {
     match lines.next_line() {
         None => Ok(()),

@@ -203,9 +203,7 @@ fn each_byte_replaced(rt: HostRuntime) -> Result<(), Fail> {
 // The canonical text of the file that the text begins with.
 fn rewritten(alloc: Global, text: &[u8]) -> Result<Vec<u8>, Fail> {
     let mut lines = Lines::new(text);
-    let Ok(file) = read_problem_lines(alloc, &mut lines) else {
-        return Err(Fail::from("the text is no problem file"));
-    };
+    let file = read_problem_lines(alloc, &mut lines)?;
     let mut out = Vec::new(alloc);
     write_problem(&file, &mut out)?;
     Ok(out)
