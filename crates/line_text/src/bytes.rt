@@ -6,7 +6,7 @@ ghost use Rattle.line_text.specs.Tokens.{content, tokens};
 ghost use Rattle.line_text.specs.Tokens as spec;
 
 // The bytes of the first line, without its line feed, and what follows the line.
-pub fn split_line(bytes: &[u8]) -> (&[u8], &[u8])
+pub(crate) fn split_line(bytes: &[u8]) -> (&[u8], &[u8])
     requires { 0 < length bytes.now }
     ensures lines { length (split bytes.now) ≡ suc (length (split result.1.now)) }
     ensures rows { (place number : ℕ) → rows_from place number (split bytes.now) ≡ with_row number (tokens place (content result.0.now))
@@ -34,7 +34,7 @@ fn line_end(bytes: &[u8]) -> usize
 }
 
 // Where the first byte that isn't blank stands, or the length.
-pub fn blanks_end(bytes: &[u8]) -> usize
+pub(crate) fn blanks_end(bytes: &[u8]) -> usize
     ensures within { result ≤ length bytes.now }
     ensures same { (place : ℕ) → tokens place bytes.now ≡ tokens (place + result) (drop result bytes.now) }
     ensures next { spec.begins_blank (drop result bytes.now) ≡ false }
@@ -47,7 +47,7 @@ pub fn blanks_end(bytes: &[u8]) -> usize
 }
 
 // Where the first blank or mark stands, or the length.
-pub fn run_end(bytes: &[u8]) -> usize
+pub(crate) fn run_end(bytes: &[u8]) -> usize
     ensures place { result ≡ position_or_len spec.ends_token bytes.now }
     ensures within { result ≤ length bytes.now }
 {
@@ -60,7 +60,7 @@ pub fn run_end(bytes: &[u8]) -> usize
 
 // A line's text without a carriage return at its end and without its comment.
 #[tactic(auto, unfolding(crate::specs::Tokens::content))]
-pub fn line_content(text: &[u8]) -> &[u8]
+pub(crate) fn line_content(text: &[u8]) -> &[u8]
     ensures value { result.now ≡ content text.now }
     ensures within { length result.now ≤ length text.now }
 {
@@ -90,19 +90,22 @@ fn comment_start(text: &[u8]) -> usize
     start
 }
 
+// Whether a byte is a blank.
 fn is_blank(byte: u8) -> bool
     ensures { result ≡ spec.is_blank byte }
 {
     byte == b' ' || byte == b'\t'
 }
 
+// Whether a run of bytes ends before this one.
 fn ends_token(byte: u8) -> bool
     ensures { result ≡ spec.ends_token byte }
 {
     is_blank(byte) || is_mark(byte)
 }
 
-pub fn is_mark(byte: u8) -> bool
+// Whether a byte is a token by itself.
+pub(crate) fn is_mark(byte: u8) -> bool
     ensures { result ≡ spec.is_mark byte }
 {
     byte == b':' || byte == b'/'
