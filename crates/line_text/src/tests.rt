@@ -58,10 +58,11 @@ fn token(text: &[u8]) -> Token<'_> {
     }
 }
 
+const ALL: i128 = i128::MAX;
+
 #[test]
 fn numbers_are_read(rt: HostRuntime) -> Result<(), Fail> {
-    let all = i128::MAX;
-    let table: [(&[u8], i128, i128, Result<i128, BadNumber>); 20] = [
+    let table: [(&[u8], i128, i128, Result<i128, BadNumber>); 15] = [
         (b"0", 0, 0, Ok(0)),
         (b"+0", -1, 1, Ok(0)),
         (b"-0", -1, 1, Ok(0)),
@@ -71,50 +72,48 @@ fn numbers_are_read(rt: HostRuntime) -> Result<(), Fail> {
         (b"0", 1, 16, Err(BadNumber::Outside)),
         (b"1000000", -1_000_000, 1_000_000, Ok(1_000_000)),
         (b"1000001", -1_000_000, 1_000_000, Err(BadNumber::Outside)),
-        (b"+", -all, all, Err(BadNumber::Spelling)),
-        (b"-", -all, all, Err(BadNumber::Spelling)),
-        (b"+-1", -all, all, Err(BadNumber::Spelling)),
-        (b"--1", -all, all, Err(BadNumber::Spelling)),
-        (b"1a", -all, all, Err(BadNumber::Spelling)),
-        (b"\xff", -all, all, Err(BadNumber::Spelling)),
-        (
-            b"170141183460469231731687303715884105727",
-            -all,
-            all,
-            Ok(all),
-        ),
-        (
-            b"170141183460469231731687303715884105728",
-            -all,
-            all,
-            Err(BadNumber::Outside),
-        ),
-        (
-            b"-170141183460469231731687303715884105727",
-            -all,
-            all,
-            Ok(-all),
-        ),
-        (
-            b"-170141183460469231731687303715884105728",
-            -all,
-            all,
-            Err(BadNumber::Outside),
-        ),
-        (
-            b"-170141183460469231731687303715884105729",
-            -all,
-            all,
-            Err(BadNumber::Outside),
-        ),
+        (b"+", -ALL, ALL, Err(BadNumber::Spelling)),
+        (b"-", -ALL, ALL, Err(BadNumber::Spelling)),
+        (b"+-1", -ALL, ALL, Err(BadNumber::Spelling)),
+        (b"--1", -ALL, ALL, Err(BadNumber::Spelling)),
+        (b"1a", -ALL, ALL, Err(BadNumber::Spelling)),
+        (b"\xff", -ALL, ALL, Err(BadNumber::Spelling)),
     ];
     for (text, min, max, want) in table {
         assert!(rt; min <= max);
         assert_eq!(rt; read_int(&token(text), min, max), want);
     }
+    Ok(())
+}
+
+#[test]
+fn greatest_numbers(rt: HostRuntime) {
+    let table: [(&[u8], Result<i128, BadNumber>); 5] = [
+        (b"170141183460469231731687303715884105727", Ok(ALL)),
+        (
+            b"170141183460469231731687303715884105728",
+            Err(BadNumber::Outside),
+        ),
+        (b"-170141183460469231731687303715884105727", Ok(-ALL)),
+        (
+            b"-170141183460469231731687303715884105728",
+            Err(BadNumber::Outside),
+        ),
+        (
+            b"-170141183460469231731687303715884105729",
+            Err(BadNumber::Outside),
+        ),
+    ];
+    for (text, want) in table {
+        assert_eq!(rt; read_int(&token(text), -ALL, ALL), want);
+    }
+}
+
+#[test]
+fn long_numbers(rt: HostRuntime) -> Result<(), Fail> {
     let nines = vec![in rt.alloc(); b'9'; 10_000]?;
     assert_eq!(rt;
-        read_int(&token(&nines), -all, all),
+        read_int(&token(&nines), -ALL, ALL),
         Err(BadNumber::Outside)
     );
     let mut zeros = vec![in rt.alloc(); b'0'; 10_000]?;
