@@ -75,7 +75,6 @@ fn list_choices(
     requires alone { HasNoCorners problem.now }
     requires counts { counts.now ≡ map length problem.now.supports }
     requires pairs { HavePairs counts.now }
-    requires small { Each counts.now (λ count. count ≤ 1000) }
     ensures { MatchResult result (λ found. IsDone problem.now (λ _. Unit {0}) found.items) (IsSearchFault problem.now) }
 {
     let Ok(mut pairs) = first_choice(alloc, counts) else {

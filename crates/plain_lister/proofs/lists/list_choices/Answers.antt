@@ -4,8 +4,11 @@ use Rattle.cayley.specs.Rows.{edge_rows}
 use Rattle.plain_lister.specs.Order.{IsChoice}
 use Rattle.plain_lister.specs.Wheels.{Show}
 use Rattle.plain_lister.proofs.Odometer.{firsts_choice}
-use Rattle.plain_lister.proofs.Growing.{choice_to, begun, going_on, gone_through}
+use Rattle.plain_lister.proofs.Growing.{choice_to, begun, going_on, gone_through, small_counts}
 use Rattle.plain_lister.proofs.lists.list_choices.Goals as goal
+
+pub wheels_of-requires-clause-small : goal.wheels_of-requires-clause-small
+wheels_of-requires-clause-small c = small_counts c.args.problem.now c.requires.valid c.requires.alone c.args.counts.now c.requires.counts
 
 pub rows_of-requires-clause-of : goal.rows_of-requires-clause-of
 rows_of-requires-clause-of c =

@@ -7,9 +7,6 @@ use Rattle.plain_lister.proofs.lists.list_counted.Goals as goal
 pub excess-requires : goal.excess-requires
 excess-requires c = small_counts c.args.problem.now c.requires.valid c.requires.alone c.args.counts.now c.requires.counts
 
-pub list_choices-requires-clause-small : goal.list_choices-requires-clause-small
-list_choices-requires-clause-small c = small_counts c.args.problem.now c.requires.valid c.requires.alone c.args.counts.now c.requires.counts
-
 pub returns-in-Some : goal.returns-in-Some
 returns-in-Some c =
     let h : HavePairs c.args.counts.now = search rules in
