@@ -70,7 +70,7 @@ first_height t x =
     none : (z : ℤ) → z +ℤ pos 0 ≡ z
     none z = omega (arith, ints)
 
-first_rise : (t : Time) (x y : Point) → at (sub (height t y) (height t x)) 0 ≡ t.over *ℤ (y.base -ℤ x.base) +ℤ (y.speed -ℤ x.speed) *ℤ at t.entries 0
+pub first_rise : (t : Time) (x y : Point) → at (sub (height t y) (height t x)) 0 ≡ t.over *ℤ (y.base -ℤ x.base) +ℤ (y.speed -ℤ x.speed) *ℤ at t.entries 0
 first_rise t x y =
     at-add (height t y) (scale (neg_ℤ (pos 1)) (height t x)) 0
     ∙ ap₂ ◌+ℤ◌ (first_height t y) (at-scale (neg_ℤ (pos 1)) (height t x) 0 ∙ minus_one _ ∙ ap neg_ℤ (first_height t x))
@@ -79,7 +79,7 @@ first_rise t x y =
     step : (o a b s r z : ℤ) → o *ℤ a +ℤ s *ℤ z +ℤ neg_ℤ (o *ℤ b +ℤ r *ℤ z) ≡ o *ℤ (a -ℤ b) +ℤ (s -ℤ r) *ℤ z
     step o a b s r z = rw (as_D o, as_D a, as_D b, as_D s, as_D r, as_D z) (simp Ds (same_D _ _ _ _ (omega arith)))
 
-dot_numerators : (t : Time) (ds ps qs : List ℤ) → dot ds (numerators t ps qs) ≡ t.over *ℤ dot ds ps +ℤ at t.entries 0 *ℤ dot ds qs
+pub dot_numerators : (t : Time) (ds ps qs : List ℤ) → dot ds (numerators t ps qs) ≡ t.over *ℤ dot ds ps +ℤ at t.entries 0 *ℤ dot ds qs
 dot_numerators t ds ps qs = dot-add ds (scale t.over ps) (scale (at t.entries 0) qs) ∙ ap₂ ◌+ℤ◌ (dot-scale ds t.over ps) (dot-scale ds (at t.entries 0) qs)
 
 -- of a pair: the numerators times the normal's denominator less its first entries times theirs
