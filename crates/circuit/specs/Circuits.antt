@@ -1,0 +1,50 @@
+-- Circuits: a cell's dependency with one further point. Places j count from 0, positions c from 1.
+use Rattle.std.specs.Prelude.{◌≡◌, ℕ, zero, suc, ◌+◌, ◌*◌, ◌≤◌, List, [], ◌∷◌, length, ℤ, pos, negsuc, ◌≤ℤ◌}
+use Rattle.cayley.specs.declared.found.Sign.{Sign}
+use Rattle.cayley.specs.declared.found.Sign.TheVariants.{Minus, Zero, Plus}
+use Rattle.cayley.specs.Times.{Time}
+use Rattle.cayley.specs.Problems.{Problem}
+use Rattle.cayley.specs.Cells.{Cell}
+use Rattle.cayley.specs.Normals.{Normal, IsNormal}
+use Rattle.cayley.specs.Dependencies.{Numbers, IsDependencyOf, IsPositiveDependency, IsMultiple}
+use Rattle.cayley.specs.Laws.{Sides}
+use Rattle.circuit.specs.declared.circuits.Circuit.{Circuit}
+
+-- the numbers two by two, without the last of an odd count
+abbrev pub pairs_of : List ℤ → List (ℤ × ℤ)
+pairs_of [] = []
+pairs_of (x ∷ []) = []
+pairs_of (x ∷ y ∷ xs) = (x, y) ∷ pairs_of xs
+
+-- the last of an odd count
+abbrev pub last_of : List ℤ → ℤ
+last_of [] = pos 0
+last_of (x ∷ []) = x
+last_of (x ∷ y ∷ xs) = last_of xs
+
+-- a list a1, b1, .., an, bn, c as two numbers for each pair and one for the further point
+abbrev pub numbers_of : List ℤ → Numbers
+numbers_of xs = record { pairs = pairs_of xs; last = last_of xs }
+
+-- two coefficients for each of n pairs and one more, the last at least 1, and the support is one of the n
+pub record HasForm (n : ℕ) (circuit : Circuit) : Type 0 where
+  pub count : length circuit.coefficients ≡ 2 * n + 1
+  pub support : (1 ≤ circuit.support) × (circuit.support ≤ n)
+  pub positive : pos 1 ≤ℤ last_of circuit.coefficients
+
+-- the dependency of a cell and the further point c of support j that is positive there
+pub record IsCircuit (p : Problem) (cell : Cell) (j c : ℕ) (circuit : Circuit) : Type 0 where
+  pub form : HasForm (length cell) circuit
+  pub support : circuit.support ≡ suc j
+  pub scale : circuit.scale ≡ last_of circuit.coefficients
+  pub dependency : IsPositiveDependency p cell j c (numbers_of circuit.coefficients)
+  -- every other one is a multiple of it by a fraction
+  pub multiples : (others : Numbers) → IsDependencyOf p cell j c others → IsMultiple others (numbers_of circuit.coefficients)
+  -- its sum of heights tells the point's side at every time
+  pub sides : (t : Time) (v : Normal) → IsNormal p cell t v → Sides p cell j c (numbers_of circuit.coefficients) t v
+
+-- the sign of a number
+abbrev pub sign_of : ℤ → Sign
+sign_of (pos zero) = Zero
+sign_of (pos (suc n)) = Plus
+sign_of (negsuc n) = Minus

@@ -1,0 +1,4 @@
+pub mod Inverses
+pub mod Workings
+pub mod Circuits
+pub mod Kernels

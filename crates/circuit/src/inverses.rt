@@ -1,0 +1,68 @@
+ghost use Rattle.std.specs.Prelude.{◌≡◌, ◌+◌, ◌*◌, ◌<◌, ◌≤◌, ℕ, List, ℤ, pos, ◌<ℤ◌, MatchResult, IfOk, length, unsigned_abs};
+ghost use Rattle.wide_int.specs.Whole.{FitsWhole};
+ghost use Rattle.int_vectors.specs.Vectors.{Each};
+ghost use Rattle.reduced_rows.specs.Refusals.{IsFromFault};
+ghost use Rattle.circuit.specs.Inverses.{scaled_columns, FitsColumns, inverse_of, FitsInverse};
+
+use int_vectors::IntVec;
+use reduced_rows::{FromFault, Reduced};
+use std::alloc::Global;
+use std::marker::Model;
+
+/// The inverse of the differences of a cell's pairs, times its least denominator: what all circuits
+/// of the cell share.
+#[derive(Drop)]
+pub struct ScaledInverse {
+    den: i128,
+    columns: Vec<IntVec>,
+}
+
+impl Model for ScaledInverse {
+    ghost use Rattle.std.specs.Prelude.{pos, ◌<ℤ◌};
+    ghost use Rattle.wide_int.specs.Whole.{FitsWhole};
+    ghost use Rattle.circuit.specs.Inverses.{Inverse};
+
+    ghost Value = { Inverse };
+
+    ghost view = { λ a. record { den = a.den; columns = a.columns.items } };
+
+    ghost invariant = { λ a. FitsWhole a.den × (pos 0 <ℤ a.den) };
+}
+
+// The columns from `2 + n` on, each entry times `den` over its row's pivot.
+fn columns_of(alloc: Global, reduced: &Reduced, den: i128) -> Result<Vec<IntVec>, FromFault>
+    requires widths { Each reduced.now (λ row. length row ≡ 2 * length reduced.now + 2) }
+    requires positive { pos 0 <ℤ den }
+    ensures { let n = length reduced.now in let l = unsigned_abs den in MatchResult result
+        (λ made. FitsColumns n (n + 2) l reduced.now × (made.items ≡ scaled_columns n (n + 2) l reduced.now))
+        (IsFromFault (FitsColumns n (n + 2) l reduced.now)) }
+{
+    let count = reduced.count();
+    let Ok(mut made) = Vec::with_capacity(alloc, count) else {
+        return Err(FromFault::OutOfMemory);
+    };
+    for i in 0..count {
+        let column = reduced.scaled_column(alloc, count + 2 + i, den)?;
+        if let Err(_) = made.push(column) {
+            return Err(FromFault::OutOfMemory);
+        }
+    }
+    Ok(made)
+}
+
+impl ScaledInverse {
+    /// The scaled inverse of a cell whose edge rows have these reduced rows, each of 2n + 2 numbers.
+    /// `Overflow` exactly where the denominator or a number of the columns doesn't fit.
+    pub fn of(alloc: Global, reduced: &Reduced) -> Result<ScaledInverse, FromFault>
+        requires widths { Each reduced.now (λ row. length row ≡ 2 * length reduced.now + 2) }
+        ensures { MatchResult result
+            (λ inverse. FitsInverse reduced.now × (inverse ≡ inverse_of reduced.now))
+            (IsFromFault (FitsInverse reduced.now)) }
+    {
+        let Some(den) = reduced.denominator() else {
+            return Err(FromFault::Overflow);
+        };
+        let columns = columns_of(alloc, reduced, den)?;
+        Ok(ScaledInverse { den, columns })
+    }
+}
