@@ -1,9 +1,14 @@
-ghost use Rattle.std.specs.Prelude.{◌≡◌, ◌+◌, ◌*◌, ◌<◌, ◌≤◌, ℕ, List, ℤ, pos, ◌<ℤ◌, MatchResult, IfOk, length, unsigned_abs};
+ghost use Rattle.std.specs.Prelude.{◌≡◌, ◌+◌, ◌*◌, ◌<◌, pos, ◌<ℤ◌, MatchResult, length, unsigned_abs};
 ghost use Rattle.wide_int.specs.Whole.{FitsWhole};
-ghost use Rattle.int_vectors.specs.Vectors.{Each};
+ghost use Rattle.int_vectors.specs.Fits.{AllFit};
+ghost use Rattle.int_vectors.specs.Vectors.{Each, sub};
 ghost use Rattle.reduced_rows.specs.Refusals.{IsFromFault};
+ghost use Rattle.cayley.specs.Valid.{IsCornerCoordinate};
 ghost use Rattle.circuit.specs.Inverses.{scaled_columns, FitsColumns, inverse_of, FitsInverse};
+ghost use Rattle.circuit.specs.Workings as workings;
+ghost use Rattle.circuit.specs.Workings.{FitsCoefficients};
 
+use crate::coefficients::coefficients;
 use int_vectors::IntVec;
 use reduced_rows::{FromFault, Reduced};
 use std::alloc::Global;
@@ -64,5 +69,36 @@ impl ScaledInverse {
         };
         let columns = columns_of(alloc, reduced, den)?;
         Ok(ScaledInverse { den, columns })
+    }
+
+    // The denominator.
+    pub(crate) fn den(&self) -> i128
+        ensures value { result ≡ self.now.den }
+        ensures fits { FitsWhole result }
+        ensures positive { pos 0 <ℤ result }
+    {
+        self.den
+    }
+
+    // The coefficients of the cell and the point `c` against `a`, the first point of the pair in the
+    // support at `place`, which counts from 0.
+    pub(crate) fn coefficients(
+        &self,
+        alloc: Global,
+        c: &[i128],
+        a: &[i128],
+        place: usize,
+    ) -> Result<IntVec, FromFault>
+        requires place { place < length self.now.columns }
+        requires columns { Each self.now.columns (λ column. length column ≡ length c.now) }
+        requires points { length a.now ≡ length c.now }
+        requires c_near { Each c.now IsCornerCoordinate }
+        requires a_near { Each a.now IsCornerCoordinate }
+        ensures { let v = sub c.now a.now in MatchResult result
+            (λ made. FitsCoefficients place self.now v × (made ≡ workings.coefficients_of place self.now v))
+            (IsFromFault (FitsCoefficients place self.now v)) }
+    {
+        let made = coefficients(alloc, &self.columns, self.den, c, a, place)?;
+        Ok(IntVec::from_vec(made))
     }
 }

@@ -2,6 +2,7 @@
 #![tactic(auto)]
 
 mod circuits;
+mod coefficients;
 mod inverses;
 mod making;
 mod products;

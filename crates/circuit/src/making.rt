@@ -41,7 +41,20 @@ pub fn circuit_with(
         (λ c. fits × IsCircuitFrom problem.now cell.now (support - 1) position inverse.now c)
         (IsFromFault fits) }
 {
-    Err(FromFault::OutOfMemory)
+    let (first, _) = cell.pairs()[support as usize - 1];
+    let a = problem.point(support, first);
+    let c = problem.point(support, position);
+    let coefficients = inverse.coefficients(
+        alloc,
+        c.coords.as_slice(),
+        a.coords.as_slice(),
+        support as usize - 1,
+    )?;
+    Ok(Circuit {
+        coefficients,
+        scale: inverse.den(),
+        support,
+    })
 }
 
 /// The circuit of a cell and the further point of `support` at `position`, which count from 1.
@@ -65,7 +78,49 @@ pub fn circuit_from(
         (λ c. fits × IsCircuitFrom problem.now cell.now (support - 1) position (inverse_of reduced.now) c)
         (IsFromFault fits) }
 {
-    Err(FromFault::OutOfMemory)
+    let inverse = ScaledInverse::of(alloc, reduced)?;
+    circuit_with(alloc, problem, cell, &inverse, support, position)
+}
+
+// The elimination of the cell's rows.
+fn reduced_of(alloc: Global, problem: &Problem, cell: &Cell) -> Result<Reduced, CellFault>
+    requires { IsOf problem.now cell.now }
+    ensures { let n = problem.now.dimension in let rows = edge_rows problem.now cell.now in MatchResult result
+        (IsEliminated n rows)
+        (IsCellFault (FitsElimination n rows) n rows) }
+{
+    let Ok(rows) = problem.edge_rows(alloc, cell) else {
+        return Err(CellFault::OutOfMemory);
+    };
+    match reduce(alloc, rows, problem.dim()) {
+        Ok(reduced) => Ok(reduced),
+        Err(ReduceFault::Overflow) => Err(CellFault::Overflow),
+        Err(ReduceFault::Dependent { kernel }) => Err(CellFault::Dependent { kernel }),
+        Err(ReduceFault::OutOfMemory) => Err(CellFault::OutOfMemory),
+    }
+}
+
+// The circuit by the elimination of the cell's rows.
+fn circuit_of_rows(
+    alloc: Global,
+    problem: &Problem,
+    cell: &Cell,
+    support: u32,
+    position: u32,
+) -> Result<Circuit, CellFault>
+    requires cell { IsOf problem.now cell.now }
+    requires point { (1 ≤ support) × (support ≤ problem.now.dimension) × IsFurtherAt problem.now cell.now (support - 1) position }
+    ensures circuit { IfOk result (λ c. (p : problems.Problem) → HasSamePoints p problem.now → IsCircuit p cell.now (support - 1) position c) }
+    ensures working { MatchResult result
+        (IsCircuitOfRows problem.now cell.now (support - 1) position)
+        (IsCellFault (FitsCircuitWorking problem.now cell.now (support - 1) position) problem.now.dimension (edge_rows problem.now cell.now)) }
+{
+    let reduced = reduced_of(alloc, problem, cell)?;
+    match circuit_from(alloc, problem, cell, &reduced, support, position) {
+        Ok(circuit) => Ok(circuit),
+        Err(FromFault::Overflow) => Err(CellFault::Overflow),
+        Err(FromFault::OutOfMemory) => Err(CellFault::OutOfMemory),
+    }
 }
 
 /// The circuit of a cell and the further point of `support` at `position`, which count from 1.
@@ -92,5 +147,7 @@ pub fn circuit_of(
         (IsCircuitOfRows problem.now cell.now (support - 1) position)
         (IsCellFault (FitsCircuitWorking problem.now cell.now (support - 1) position) problem.now.dimension (edge_rows problem.now cell.now)) }
 {
-    Err(CellFault::OutOfMemory)
+    // A problem is valid by its type, as its readers tell.
+    let _dim = problem.dim();
+    circuit_of_rows(alloc, problem, cell, support, position)
 }

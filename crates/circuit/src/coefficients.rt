@@ -1,0 +1,87 @@
+ghost use Rattle.std.specs.Prelude.{◌≡◌, ◌<◌, ◌≤◌, ◌∷◌, [], ◌-ℤ◌, neg_ℤ, pos, SomeIff, MatchResult, length};
+ghost use Rattle.wide_int.specs.Whole.{FitsWhole};
+ghost use Rattle.int_vectors.specs.Fits.{AllFit, FitsDot};
+ghost use Rattle.int_vectors.specs.Vectors.{Each, at, sub, dot};
+ghost use Rattle.reduced_rows.specs.Refusals.{IsFromFault};
+ghost use Rattle.cayley.specs.Valid.{IsCornerCoordinate};
+ghost use Rattle.circuit.specs.Workings as workings;
+ghost use Rattle.circuit.specs.Workings.{products, coefficients_from};
+
+use crate::products::product_of;
+use int_vectors::IntVec;
+use reduced_rows::FromFault;
+use std::alloc::Global;
+use wide_int::difference;
+
+// The number, less `den` where the two places are one. `None` exactly where that doesn't fit.
+fn less_own(i: usize, place: usize, den: i128, m: i128) -> Option<i128>
+    requires { FitsWhole m }
+    ensures { let value = workings.less_own i place den m in SomeIff result (FitsWhole value) value }
+{
+    if i == place {
+        difference(m, den)
+    } else {
+        Some(m)
+    }
+}
+
+// The coefficients of the pair of support `i`, by its column; both places count from 0.
+fn pair_of(
+    c: &[i128],
+    a: &[i128],
+    column: &[i128],
+    i: usize,
+    place: usize,
+    den: i128,
+) -> Option<[i128; 2]>
+    requires first { length c.now ≡ length column.now }
+    requires second { length a.now ≡ length column.now }
+    requires c_near { Each c.now IsCornerCoordinate }
+    requires a_near { Each a.now IsCornerCoordinate }
+    ensures { let m = dot (sub c.now a.now) column.now in let own = workings.less_own i place den m in SomeIff result
+        (FitsDot (pos 0) (sub c.now a.now) column.now × FitsWhole own)
+        (own ∷ neg_ℤ m ∷ []) }
+{
+    let m = product_of(c, a, column)?;
+    let own = less_own(i, place, den, m)?;
+    Some([own, -m])
+}
+
+// The coefficients of a cell and the point `c` against `a`, the first point of the pair in the
+// support at `place`.
+pub(crate) fn coefficients(
+    alloc: Global,
+    columns: &[IntVec],
+    den: i128,
+    c: &[i128],
+    a: &[i128],
+    place: usize,
+) -> Result<Vec<i128>, FromFault>
+    requires place { place < length columns.now }
+    requires columns { Each columns.now (λ column. length column ≡ length c.now) }
+    requires points { length a.now ≡ length c.now }
+    requires c_near { Each c.now IsCornerCoordinate }
+    requires a_near { Each a.now IsCornerCoordinate }
+    requires fits { FitsWhole den }
+    ensures { let v = sub c.now a.now in let ms = products v columns.now in
+        let fits = Each columns.now (FitsDot (pos 0) v) × FitsWhole (at ms place -ℤ den) in MatchResult result
+        (λ made. fits × (made.items ≡ coefficients_from 0 place den ms) × AllFit made.items)
+        (IsFromFault fits) }
+{
+    let Ok(mut made) = Vec::with_capacity(alloc, columns.len().saturating_mul(2).saturating_add(1))
+    else {
+        return Err(FromFault::OutOfMemory);
+    };
+    for (i, column) in columns.iter().enumerate() {
+        let Some(pair) = pair_of(c, a, column.as_slice(), i, place, den) else {
+            return Err(FromFault::Overflow);
+        };
+        if let Err(_) = made.extend_from_slice(&pair) {
+            return Err(FromFault::OutOfMemory);
+        }
+    }
+    if let Err(_) = made.push(den) {
+        return Err(FromFault::OutOfMemory);
+    }
+    Ok(made)
+}
