@@ -3,5 +3,7 @@ pub mod ScaledSums
 pub mod PairNumbers
 pub mod Reading
 pub mod Meaning
+pub mod Faults
+pub mod InverseSteps
 pub mod Near
 pub mod CoefficientSteps

@@ -58,11 +58,14 @@ pair_first (x ∷ y ∷ xs) (suc i) zero e l = absurd (omega (arith, e))
 pair_first (x ∷ y ∷ xs) (suc i) (suc zero) e l = absurd (omega (arith, e))
 pair_first (x ∷ y ∷ xs) (suc i) (suc (suc k)) e l = pair_first xs i k (omega (arith, e)) (omega (arith, l))
 
+second_from : (xs : List ℤ) (i k : ℕ) → k ≡ 2 * i → k + 1 < length xs → (number_at (pairs_of xs) i).1 ≡ at xs (suc k)
+second_from [] i k e l = absurd (omega (arith, l))
+second_from (x ∷ []) i k e l = absurd (omega (arith, l))
+second_from (x ∷ y ∷ xs) zero zero e l = refl
+second_from (x ∷ y ∷ xs) zero (suc k) e l = absurd (omega (arith, e))
+second_from (x ∷ y ∷ xs) (suc i) zero e l = absurd (omega (arith, e))
+second_from (x ∷ y ∷ xs) (suc i) (suc zero) e l = absurd (omega (arith, e))
+second_from (x ∷ y ∷ xs) (suc i) (suc (suc k)) e l = second_from xs i k (omega (arith, e)) (omega (arith, l))
+
 pub pair_second : (xs : List ℤ) (i k : ℕ) → k ≡ 2 * i → k + 1 < length xs → (number_at (pairs_of xs) i).1 ≡ at xs (k + 1)
-pair_second [] i k e l = absurd (omega (arith, l))
-pair_second (x ∷ []) i k e l = absurd (omega (arith, l))
-pair_second (x ∷ y ∷ xs) zero zero e l = refl
-pair_second (x ∷ y ∷ xs) zero (suc k) e l = absurd (omega (arith, e))
-pair_second (x ∷ y ∷ xs) (suc i) zero e l = absurd (omega (arith, e))
-pair_second (x ∷ y ∷ xs) (suc i) (suc zero) e l = absurd (omega (arith, e))
-pair_second (x ∷ y ∷ xs) (suc i) (suc (suc k)) e l = pair_second xs i k (omega (arith, e)) (omega (arith, l))
+pair_second xs i k e l = let s : suc k ≡ k + 1 = omega arith in second_from xs i k e l ∙ ap (at xs) s
