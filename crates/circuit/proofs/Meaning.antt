@@ -1,11 +1,12 @@
 -- what the working's coefficients are: the dependency of the cell and the further point
-use Rattle.std.proofs.Common.{◌≡◌, ℕ, zero, suc, ◌+◌, ◌*◌, ◌<◌, ◌≤◌, List, [], ◌∷◌, length, map, arith, refl, sym, ap, ap₂, subst, subst₂, ◌∙◌, Result, Ok}
+use Rattle.std.proofs.Common.{◌≡◌, ℕ, zero, suc, ◌+◌, ◌*◌, ◌<◌, ◌≤◌, List, [], ◌∷◌, length, map, arith, refl, sym, ap, ap₂, subst, subst₂, ◌∙◌, ◌<ℤ◌, ◌≤ℤ◌}
 use Rattle.std.proofs.lemmas.Int.{ints}
 use Rattle.std.proofs.lemmas.List.{length-map}
-use Rattle.std.proofs.Math.IntN.{ℤ, pos, ◌<ℤ◌, ◌≤ℤ◌, neg_ℤ}
+use Rattle.std.proofs.Math.IntN.{ℤ, pos, neg_ℤ}
 use Rattle.int_vectors.specs.Vectors.{Each, sub, scale, dot}
 use Rattle.reduced_rows.specs.CellRefusals.{IsEliminated}
 use Rattle.reduced_rows.specs.Denominators.{lcm_from}
+use Rattle.reduced_rows.specs.Solutions.{scaled_column}
 use Rattle.reduced_rows.specs.Spans.{IsReducedOf}
 use Rattle.reduced_rows.specs.Steps.{FitsElimination, elimination}
 use Rattle.reduced_rows.proofs.Outcome.{reduced_means}
@@ -31,6 +32,25 @@ reduced_of p cell well of made e = reduced_means p.dimension _ (edge_rows p cell
 pub length-columns : (m off l : ℕ) (made : List (List ℤ)) → length (scaled_columns m off l made) ≡ m
 length-columns zero off l made = refl
 length-columns (suc m) off l made = ap suc (length-columns m (suc off) l made)
+
+length-column : (k j l : ℕ) (made : List (List ℤ)) → length (scaled_column k j l made) ≡ length made
+unfolding scaled_column
+length-column k j l [] = refl
+length-column k j l (row ∷ made) = ap suc (length-column k (suc j) l made)
+
+columns_long : (m off l : ℕ) (made : List (List ℤ)) → Each (scaled_columns m off l made) (λ column. length column ≡ length made)
+columns_long zero off l made = tt
+columns_long (suc m) off l made = (length-column off 0 l made, columns_long m (suc off) l made)
+
+-- n columns of n numbers
+pub inverse_shape : (p : Problem) (cell : Cell) → IsProblem p → IsOf p cell → (inverse : Inverse) → IsInverseOf p cell inverse
+    → (length inverse.columns ≡ p.dimension) × Each inverse.columns (λ column. length column ≡ p.dimension)
+inverse_shape p cell well of inverse is =
+    let made = is.0 in
+    let count = (reduced_of p cell well of made is.1).count in (
+      ap (λ (i : Inverse). length i.columns) is.2 ∙ length-columns (length made) _ (lcm_from 0 1 made) made ∙ count,
+      subst (λ n. Each inverse.columns (λ column. length column ≡ n)) count (subst (λ (i : Inverse). Each i.columns (λ column. length column ≡ length made)) (sym is.2) (columns_long (length made) _ (lcm_from 0 1 made) made)),
+    )
 
 each_support_at : (P : List Point → Type 0) (supports : List (List Point)) (j : ℕ) → j < length supports → Each supports P → P (support_at supports j)
 each_support_at P [] j l e = absurd (omega (arith, l))

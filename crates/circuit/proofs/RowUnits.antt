@@ -8,11 +8,10 @@ use Rattle.cayley.specs.Cells.{Cell, EachPair, IsOf}
 use Rattle.cayley.specs.Rows.{unit_row, edge_row, edge_rows_from, edge_rows}
 use Rattle.cayley.proofs.CellRows.{HaveLength, InRange, edge_long}
 
-at-past : (xs ys : List ℤ) (n k : ℕ) → length xs ≡ n → at (xs ++ ys) (n + k) ≡ at ys k
-at-past [] ys zero k e = refl
-at-past [] ys (suc n) k e = absurd (omega (arith, e))
+at-past : (xs ys : List ℤ) (m k : ℕ) → m ≡ length xs + k → at (xs ++ ys) m ≡ at ys k
+at-past [] ys m k e = let f : m ≡ k = omega (arith, e) in ap (at ys) f
 at-past (x ∷ xs) ys zero k e = absurd (omega (arith, e))
-at-past (x ∷ xs) ys (suc n) k e = at-past xs ys n k (omega (arith, e))
+at-past (x ∷ xs) ys (suc m) k e = at-past xs ys m k (omega (arith, e))
 
 at-zeros : (n k : ℕ) → at (replicate n (pos 0)) k ≡ pos 0
 at-zeros zero k = refl
@@ -33,9 +32,7 @@ rows_from_units n i (s ∷ supports) (x ∷ cell) well of l =
     let a = point_at s x.0 in
     let b = point_at s x.1 in (
       (λ k.
-          let e : n + 2 + k ≡ n + suc (suc k) = omega arith in
-          ap (at (edge_row n i a b)) e
-          ∙ at-past (sub b.coordinates a.coordinates) ((b.base -ℤ a.base) ∷ (b.speed -ℤ a.speed) ∷ unit_row n i) n (suc (suc k)) (edge_long n s x.0 x.1 of.0 well.0)
+          at-past (sub b.coordinates a.coordinates) ((b.base -ℤ a.base) ∷ (b.speed -ℤ a.speed) ∷ unit_row n i) (n + 2 + k) (suc (suc k)) (let e = edge_long n s x.0 x.1 of.0 well.0 in omega (arith, e))
           ∙ at-unit_row n i k (omega (arith, l))),
       rows_from_units n (suc i) supports cell well.1 of.1 (omega (arith, l)),
     )

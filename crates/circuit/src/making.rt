@@ -6,11 +6,11 @@ ghost use Rattle.reduced_rows.specs.CellRefusals.{IsEliminated, IsCellFault, Has
 ghost use Rattle.reduced_rows.specs.Refusals.{IsFromFault};
 ghost use Rattle.reduced_rows.specs.Steps.{FitsElimination};
 ghost use Rattle.cayley.specs.Cells.{IsOf, IsIndependent};
-ghost use Rattle.cayley.specs.Dependencies.{IsFurtherAt};
+ghost use Rattle.cayley.specs.Dependencies.{support_at, pair_at, IsFurtherAt};
 ghost use Rattle.cayley.specs.Problems as problems;
-ghost use Rattle.cayley.specs.Problems.{HasSamePoints};
+ghost use Rattle.cayley.specs.Problems.{point_at, HasSamePoints};
 ghost use Rattle.cayley.specs.Rows.{edge_rows};
-ghost use Rattle.cayley.specs.Valid.{IsCornerCoordinate};
+ghost use Rattle.cayley.specs.Valid.{IsCornerCoordinate, IsValidProblem};
 ghost use Rattle.circuit.specs.Circuits.{IsCircuit};
 ghost use Rattle.circuit.specs.Inverses.{inverse_of, IsInverseOf};
 ghost use Rattle.circuit.specs.Kernels.{HasCellKernel};
@@ -18,9 +18,61 @@ ghost use Rattle.circuit.specs.Workings.{coefficients_of, difference, FitsCoeffi
 
 use crate::circuits::Circuit;
 use crate::inverses::ScaledInverse;
-use cayley::{Cell, Problem};
+use cayley::{Cell, Point, Problem};
+use int_vectors::IntVec;
 use reduced_rows::{CellFault, FromFault, Reduced, ReduceFault, reduce};
 use std::alloc::Global;
+
+// The point at a position of a support; both count from 1.
+fn point_of(problem: &Problem, support: u32, position: u32) -> &Point
+    requires support { (1 ≤ support) × (support ≤ problem.now.dimension) }
+    requires position { (1 ≤ position) × (position ≤ length (support_at problem.now.supports (support - 1))) }
+    ensures same { result.now.coords ≡ (point_at (support_at problem.now.supports (support - 1)) position).coordinates }
+    ensures long { length result.now.coords ≡ problem.now.dimension }
+    ensures near { Each result.now.coords IsCornerCoordinate }
+    ensures valid { IsValidProblem problem.now }
+{
+    problem.point(support, position)
+}
+
+// The first position of the cell's pair in a support, which counts from 1.
+fn first_of(problem: &Problem, cell: &Cell, support: u32) -> u32
+    requires cell { IsOf problem.now cell.now }
+    requires support { (1 ≤ support) × (support ≤ problem.now.dimension) }
+    ensures same { result ≡ (pair_at cell.now (support - 1)).0 }
+    ensures place { (1 ≤ result) × (result ≤ length (support_at problem.now.supports (support - 1))) }
+{
+    // A problem is valid by its type, as its readers tell.
+    let _dim = problem.dim();
+    cell.pairs()[support as usize - 1].0
+}
+
+// The coefficients of the cell and the further point of `support` at `position`.
+fn coefficients_at(
+    alloc: Global,
+    problem: &Problem,
+    cell: &Cell,
+    inverse: &ScaledInverse,
+    support: u32,
+    position: u32,
+) -> Result<IntVec, FromFault>
+    requires cell { IsOf problem.now cell.now }
+    requires point { (1 ≤ support) × (support ≤ problem.now.dimension) × IsFurtherAt problem.now cell.now (support - 1) position }
+    requires inverse { IsInverseOf problem.now cell.now inverse.now }
+    ensures value { let v = difference problem.now cell.now (support - 1) position in MatchResult result
+        (λ made. FitsCoefficients (support - 1) inverse.now v × (made ≡ coefficients_of (support - 1) inverse.now v))
+        (IsFromFault (FitsCoefficients (support - 1) inverse.now v)) }
+    ensures valid { IsValidProblem problem.now }
+{
+    let a = point_of(problem, support, first_of(problem, cell, support));
+    let c = point_of(problem, support, position);
+    inverse.coefficients(
+        alloc,
+        c.coords.as_slice(),
+        a.coords.as_slice(),
+        support as usize - 1,
+    )
+}
 
 /// The circuit of a cell and the further point of `support` at `position`, which count from 1, by
 /// the scaled inverse of the cell. `Overflow` exactly where a number of this circuit doesn't fit. No
@@ -41,15 +93,7 @@ pub fn circuit_with(
         (λ c. fits × IsCircuitFrom problem.now cell.now (support - 1) position inverse.now c)
         (IsFromFault fits) }
 {
-    let (first, _) = cell.pairs()[support as usize - 1];
-    let a = problem.point(support, first);
-    let c = problem.point(support, position);
-    let coefficients = inverse.coefficients(
-        alloc,
-        c.coords.as_slice(),
-        a.coords.as_slice(),
-        support as usize - 1,
-    )?;
+    let coefficients = coefficients_at(alloc, problem, cell, inverse, support, position)?;
     Ok(Circuit {
         coefficients,
         scale: inverse.den(),
