@@ -7,3 +7,4 @@ pub mod Faults
 pub mod InverseSteps
 pub mod Near
 pub mod CoefficientSteps
+pub mod Answered

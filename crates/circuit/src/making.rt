@@ -122,6 +122,8 @@ pub fn circuit_from(
         (λ c. fits × IsCircuitFrom problem.now cell.now (support - 1) position (inverse_of reduced.now) c)
         (IsFromFault fits) }
 {
+    // A problem is valid by its type, as its readers tell.
+    let _dim = problem.dim();
     let inverse = ScaledInverse::of(alloc, reduced)?;
     circuit_with(alloc, problem, cell, &inverse, support, position)
 }

@@ -3,3 +3,19 @@ use Rattle.std.specs.Int.{w128}
 use Rattle.std.proofs.lemmas.Result.{err_from_is_err_and}
 use Rattle.circuit.proofs.Meaning.{circuit_however}
 use Rattle.circuit.proofs.making.circuit_with.Goals as goal
+
+pub returns-clause-circuit : goal.returns-clause-circuit
+returns-clause-circuit c =
+    let fd : FitsSigned w128 c.den.result = search rules in
+    let q = c.requires.point in
+    let a = c.requires.point.0 in
+    let b = c.requires.point.1 in
+    let den = c.den.ensures.value in
+    let positive = c.den.ensures.positive in
+    simp to_z-of_z (λ p e.
+    circuit_however c.args.problem.now c.args.cell.now (c.args.support - 1) c.args.position c.coefficients_at.ensures.valid.shape.problem c.requires.cell (omega (arith, a, b)) q.2
+    c.args.inverse.now c.requires.inverse (subst (λ z. pos 0 <ℤ z) den positive) _ (record {
+      coefficients = c.in_ok-coefficients.ensures.value.1;
+      scale = den;
+      support = omega (arith, a);
+    }) p e)
