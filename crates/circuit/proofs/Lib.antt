@@ -7,4 +7,5 @@ pub mod Faults
 pub mod InverseSteps
 pub mod Near
 pub mod CoefficientSteps
+pub mod Bounded
 pub mod Answered

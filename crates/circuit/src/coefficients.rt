@@ -1,5 +1,6 @@
-ghost use Rattle.std.specs.Prelude.{◌≡◌, ◌<◌, ◌≤◌, ◌∷◌, [], ◌-ℤ◌, neg_ℤ, pos, SomeIff, MatchResult, length};
+ghost use Rattle.std.specs.Prelude.{◌≡◌, ◌<◌, ◌^◌, ◌∷◌, [], ◌-ℤ◌, neg_ℤ, pos, SomeIff, IsTrue, MatchResult, length};
 ghost use Rattle.wide_int.specs.Whole.{FitsWhole};
+ghost use Rattle.int_vectors.specs.Bounds.{SumBelow};
 ghost use Rattle.int_vectors.specs.Fits.{AllFit, FitsDot};
 ghost use Rattle.int_vectors.specs.Vectors.{Each, at, sub, dot};
 ghost use Rattle.reduced_rows.specs.Refusals.{IsFromFault};
@@ -7,7 +8,7 @@ ghost use Rattle.cayley.specs.Valid.{IsCornerCoordinate};
 ghost use Rattle.circuit.specs.Workings as workings;
 ghost use Rattle.circuit.specs.Workings.{products, coefficients_from};
 
-use crate::products::product_of;
+use crate::products::product_behind;
 use int_vectors::IntVec;
 use reduced_rows::FromFault;
 use std::alloc::Global;
@@ -30,6 +31,7 @@ fn pair_of(
     c: &[i128],
     a: &[i128],
     column: &[i128],
+    bounded: bool,
     i: usize,
     place: usize,
     den: i128,
@@ -38,20 +40,22 @@ fn pair_of(
     requires second { length a.now ≡ length column.now }
     requires c_near { Each c.now IsCornerCoordinate }
     requires a_near { Each a.now IsCornerCoordinate }
+    requires bound { IsTrue bounded → SumBelow (2 ^ 127) 66000000 (pos 0) column.now }
     ensures { let m = dot (sub c.now a.now) column.now in let own = workings.less_own i place den m in SomeIff result
         (FitsDot (pos 0) (sub c.now a.now) column.now × FitsWhole own)
         (own ∷ neg_ℤ m ∷ []) }
 {
-    let m = product_of(c, a, column)?;
+    let m = product_behind(c, a, column, bounded)?;
     let own = less_own(i, place, den, m)?;
     Some([own, -m])
 }
 
 // The coefficients of a cell and the point `c` against `a`, the first point of the pair in the
-// support at `place`.
+// support at `place`. `bounded` tells that a bound on the columns shows that every product fits.
 pub(crate) fn coefficients(
     alloc: Global,
     columns: &[IntVec],
+    bounded: bool,
     den: i128,
     c: &[i128],
     a: &[i128],
@@ -63,6 +67,7 @@ pub(crate) fn coefficients(
     requires c_near { Each c.now IsCornerCoordinate }
     requires a_near { Each a.now IsCornerCoordinate }
     requires fits { FitsWhole den }
+    requires bound { IsTrue bounded → Each columns.now (SumBelow (2 ^ 127) 66000000 den) }
     ensures { let v = sub c.now a.now in let ms = products v columns.now in
         let fits = Each columns.now (FitsDot (pos 0) v) × FitsWhole (at ms place -ℤ den) in MatchResult result
         (λ made. fits × (made.items ≡ coefficients_from 0 place den ms) × AllFit made.items)
@@ -73,7 +78,7 @@ pub(crate) fn coefficients(
         return Err(FromFault::OutOfMemory);
     };
     for (i, column) in columns.iter().enumerate() {
-        let Some(pair) = pair_of(c, a, column.as_slice(), i, place, den) else {
+        let Some(pair) = pair_of(c, a, column.as_slice(), bounded, i, place, den) else {
             return Err(FromFault::Overflow);
         };
         if let Err(_) = made.extend_from_slice(&pair) {

@@ -1,6 +1,6 @@
-ghost use Rattle.std.specs.Prelude.{◌≡◌, ◌+◌, ◌*◌, ◌<◌, pos, ◌<ℤ◌, MatchResult, length, unsigned_abs};
+ghost use Rattle.std.specs.Prelude.{◌≡◌, ◌+◌, ◌*◌, ◌^◌, ◌<◌, pos, ◌<ℤ◌, IsTrue, MatchResult, length, unsigned_abs};
 ghost use Rattle.wide_int.specs.Whole.{FitsWhole};
-ghost use Rattle.int_vectors.specs.Fits.{AllFit};
+ghost use Rattle.int_vectors.specs.Bounds.{SumBelow};
 ghost use Rattle.int_vectors.specs.Vectors.{Each, sub};
 ghost use Rattle.reduced_rows.specs.Refusals.{IsFromFault};
 ghost use Rattle.cayley.specs.Valid.{IsCornerCoordinate};
@@ -9,7 +9,7 @@ ghost use Rattle.circuit.specs.Workings as workings;
 ghost use Rattle.circuit.specs.Workings.{FitsCoefficients};
 
 use crate::coefficients::coefficients;
-use int_vectors::IntVec;
+use int_vectors::{IntVec, row_fits};
 use reduced_rows::{FromFault, Reduced};
 use std::alloc::Global;
 use std::marker::Model;
@@ -20,10 +20,14 @@ use std::marker::Model;
 pub struct ScaledInverse {
     den: i128,
     columns: Vec<IntVec>,
+    // Whether the sizes of the columns show that every circuit fits.
+    bounded: bool,
 }
 
 impl Model for ScaledInverse {
-    ghost use Rattle.std.specs.Prelude.{pos, ◌<ℤ◌};
+    ghost use Rattle.std.specs.Prelude.{◌^◌, pos, ◌<ℤ◌, IsTrue};
+    ghost use Rattle.int_vectors.specs.Bounds.{SumBelow};
+    ghost use Rattle.int_vectors.specs.Vectors.{Each};
     ghost use Rattle.wide_int.specs.Whole.{FitsWhole};
     ghost use Rattle.circuit.specs.Inverses.{Inverse};
 
@@ -31,7 +35,23 @@ impl Model for ScaledInverse {
 
     ghost view = { λ a. record { den = a.den; columns = a.columns.items } };
 
-    ghost invariant = { λ a. FitsWhole a.den × (pos 0 <ℤ a.den) };
+    ghost invariant = { λ a. FitsWhole a.den × (pos 0 <ℤ a.den) × (IsTrue a.bounded → Each a.columns.items (SumBelow (2 ^ 127) 66000000 a.den)) };
+}
+
+// The greatest difference of two coordinates.
+const GREATEST_DIFFERENCE: u128 = 66_000_000;
+
+// Whether the absolute values of each column, times the greatest difference, and `den` sum to less
+// than 2^127.
+fn are_bounded(den: i128, columns: &[IntVec]) -> bool
+    ensures { IsTrue result → Each columns.now (SumBelow (2 ^ 127) 66000000 den) }
+{
+    for column in columns {
+        if !row_fits(den, column.as_slice(), GREATEST_DIFFERENCE) {
+            return false;
+        }
+    }
+    true
 }
 
 // The columns from `2 + n` on, each entry times `den` over its row's pivot.
@@ -68,7 +88,12 @@ impl ScaledInverse {
             return Err(FromFault::Overflow);
         };
         let columns = columns_of(alloc, reduced, den)?;
-        Ok(ScaledInverse { den, columns })
+        let bounded = are_bounded(den, &columns);
+        Ok(ScaledInverse {
+            den,
+            columns,
+            bounded,
+        })
     }
 
     // The denominator.
@@ -98,7 +123,7 @@ impl ScaledInverse {
             (λ made. FitsCoefficients place self.now v × (made ≡ workings.coefficients_of place self.now v))
             (IsFromFault (FitsCoefficients place self.now v)) }
     {
-        let made = coefficients(alloc, &self.columns, self.den, c, a, place)?;
+        let made = coefficients(alloc, &self.columns, self.bounded, self.den, c, a, place)?;
         Ok(IntVec::from_vec(made))
     }
 }

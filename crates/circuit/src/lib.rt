@@ -12,3 +12,6 @@ pub use circuits::Circuit;
 pub use inverses::ScaledInverse;
 pub use making::{circuit_from, circuit_of, circuit_with};
 pub use reduced_rows::{CellFault, FromFault};
+
+#[cfg(test)]
+mod tests;

@@ -129,7 +129,7 @@ pub fn circuit_from(
 }
 
 // The elimination of the cell's rows.
-fn reduced_of(alloc: Global, problem: &Problem, cell: &Cell) -> Result<Reduced, CellFault>
+pub(crate) fn reduced_of(alloc: Global, problem: &Problem, cell: &Cell) -> Result<Reduced, CellFault>
     requires { IsOf problem.now cell.now }
     ensures { let n = problem.now.dimension in let rows = edge_rows problem.now cell.now in MatchResult result
         (IsEliminated n rows)

@@ -1,9 +1,11 @@
-use Rattle.std.proofs.Common.{rules, ◌≡◌, ◌∙◌, sym, ap, length, FitsSigned, to_z-of_z, arith, List, ℤ}
+use Rattle.std.proofs.Common.{rules, ◌≡◌, ◌∙◌, ◌^◌, pos, sym, ap, subst, length, FitsSigned, to_z-of_z, arith, List, ℤ}
 use Rattle.std.specs.Int.{w128}
 use Rattle.std.specs.Prelude.{slice_index_or}
+use Rattle.int_vectors.specs.Bounds.{SumBelow}
 use Rattle.int_vectors.specs.Vectors.{sub}
 use Rattle.cayley.proofs.Lists.{all_each, same_read}
 use Rattle.circuit.specs.Workings.{products, coefficients_from}
+use Rattle.circuit.proofs.Bounded.{less_start}
 use Rattle.circuit.proofs.CoefficientSteps.{fits_to, fits_from, fits_more, fits_not, items_more, all_more, items_end, fits_end, all_end}
 use Rattle.circuit.proofs.coefficients.coefficients.Goals as goal
 
@@ -15,6 +17,12 @@ pub pair_of-requires-clause-second : goal.pair_of-requires-clause-second
 pair_of-requires-clause-second c =
     c.requires.points
     ∙ sym (ap length (c.as_slice.ensures.value ∙ c.index-columns-i.is) ∙ all_each (λ (column : List ℤ). length column ≡ length c.args.c.now) c.args.columns.now c.requires.columns c.loop-i.i _ c.loop-i-test.true)
+
+pub pair_of-requires-clause-bound : goal.pair_of-requires-clause-bound
+pair_of-requires-clause-bound c =
+    let fd : FitsSigned w128 c.args.den = c.ranges.den in
+    λ t. subst (λ (column : List ℤ). SumBelow (2 ^ 127) 66000000 (pos 0) column) (sym (c.as_slice.ensures.value ∙ c.index-columns-i.is))
+    (less_start c.args.den _ (all_each (λ (column : List ℤ). SumBelow (2 ^ 127) 66000000 c.args.den column) c.args.columns.now (c.requires.bound t) c.loop-i.i _ c.loop-i-test.true))
 
 pub returns-in_default-pair_of : goal.returns-in_default-pair_of
 returns-in_default-pair_of c =

@@ -1,0 +1,64 @@
+-- the sums behind a bound
+use Rattle.std.proofs.Common.{◌≡◌, ℕ, zero, suc, ◌+◌, ◌*◌, ◌^◌, ◌<◌, ◌≤◌, ℤ, pos, ◌+ℤ◌, ◌-ℤ◌, ◌*ℤ◌, neg_ℤ, unsigned_abs, List, [], ◌∷◌, length, get_or, drop, refl, sym, ap, subst, ◌∙◌, arith, drop_of_length-le}
+use Rattle.std.proofs.lemmas.Int.{ints}
+use Rattle.std.proofs.Math.IntN.{*ℤ_comm, +ℤ_idl, +ℤ_idr}
+use Rattle.wide_int.specs.Whole.{FitsWhole}
+use Rattle.int_vectors.specs.Bounds.{size, Within, SumBelow, Room}
+use Rattle.int_vectors.specs.Fits.{FitsDot}
+use Rattle.int_vectors.specs.Vectors.{Each, sub, dot}
+use Rattle.int_vectors.proofs.BoundSums.{room_fits, room_at}
+use Rattle.cayley.specs.Valid.{IsCornerCoordinate}
+use Rattle.cayley.proofs.EdgeRows.{abs_sub}
+
+minus_one : (x y : ℤ) → x +ℤ neg_ℤ (pos 1) *ℤ y ≡ x -ℤ y
+minus_one x y = omega (arith, ints)
+
+-- no difference of coordinates is above 66,000,000
+pub within_sub : (xs ys : List ℤ) → length xs ≡ length ys → Each xs IsCornerCoordinate → Each ys IsCornerCoordinate → Within 66000000 (sub xs ys)
+within_sub [] [] l e f = tt
+within_sub [] (y ∷ ys) l e f = absurd (omega (arith, l))
+within_sub (x ∷ xs) [] l e f = absurd (omega (arith, l))
+within_sub (x ∷ xs) (y ∷ ys) l e f = (subst (λ z. unsigned_abs z ≤ 66000000) (sym (minus_one x y)) (abs_sub x y e.0 f.0), within_sub xs ys (omega (arith, l)) e.1 f.1)
+
+-- the order of the factors
+fits_turned : (t : ℤ) (xs ys : List ℤ) → FitsDot t xs ys → FitsDot t ys xs
+unfolding FitsDot
+fits_turned t [] [] h = h
+fits_turned t [] (y ∷ ys) h = h
+fits_turned t (x ∷ xs) [] h = h
+fits_turned t (x ∷ xs) (y ∷ ys) h = (
+  subst FitsWhole (*ℤ_comm x y) h.0,
+  subst (λ z. FitsWhole (t +ℤ z)) (*ℤ_comm x y) h.1,
+  subst (λ z. FitsDot (t +ℤ z) ys xs) (*ℤ_comm x y) (fits_turned (t +ℤ x *ℤ y) xs ys h.2),
+)
+
+pub bounded_fits : (v column : List ℤ) → Within 66000000 v → SumBelow (2 ^ 127) 66000000 (pos 0) column → FitsDot (pos 0) v column
+bounded_fits v column w b = fits_turned (pos 0) column v (room_fits (pos 0) column v (66000000, w, b))
+
+-- a bound with a start is one without
+pub less_start : (den : ℤ) (column : List ℤ) → SumBelow (2 ^ 127) 66000000 den column → SumBelow (2 ^ 127) 66000000 (pos 0) column
+less_start den column h = step (unsigned_abs den) (size column * 66000000) h
+  where
+    step : (a b : ℕ) → a + b < 2 ^ 127 → 0 + b < 2 ^ 127
+    step a b h = omega arith
+
+-- a place of the loop
+module _ (t : ℤ) (v column : List ℤ) (k : ℕ) (lv : k < length v) (lc : k < length column) (r : Room (2 ^ 127) t (drop k column) (drop k v)) where
+  abbrev x : ℤ
+  x = get_or column k (pos 0)
+
+  abbrev d : ℤ
+  d = get_or v k (pos 0)
+
+  pub product_fits : FitsWhole (get_or v k (pos 0) *ℤ get_or column k (pos 0))
+  product_fits = subst FitsWhole (*ℤ_comm x d) (room_at (2 ^ 127) t column v k lc lv r).0
+
+  pub sum_fits : FitsWhole (t +ℤ get_or v k (pos 0) *ℤ get_or column k (pos 0))
+  sum_fits = subst (λ z. FitsWhole (t +ℤ z)) (*ℤ_comm x d) (room_at (2 ^ 127) t column v k lc lv r).1
+
+  pub room_more : Room (2 ^ 127) (t +ℤ get_or v k (pos 0) *ℤ get_or column k (pos 0)) (drop (k + 1) column) (drop (k + 1) v)
+  room_more = subst (λ z. Room (2 ^ 127) (t +ℤ z) (drop (k + 1) column) (drop (k + 1) v)) (*ℤ_comm x d) (room_at (2 ^ 127) t column v k lc lv r).2
+
+pub value_end : (t : ℤ) (v column : List ℤ) (k : ℕ) → length v ≤ k → t +ℤ dot (drop k v) (drop k column) ≡ pos 0 +ℤ dot v column → t ≡ dot v column
+value_end t v column k l e =
+    sym (+ℤ_idr t) ∙ ap (λ (xs : List ℤ). t +ℤ dot xs (drop k column)) (sym (drop_of_length-le v l)) ∙ e ∙ +ℤ_idl (dot v column)

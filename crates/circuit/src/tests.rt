@@ -1,0 +1,111 @@
+ghost use Rattle.std.specs.Prelude.{◌-◌, ◌≤◌, IsTrue};
+ghost use Rattle.cayley.specs.Cells.{IsOf};
+ghost use Rattle.cayley.specs.Dependencies.{IsFurtherAt};
+
+use crate::making::reduced_of;
+use crate::{CellFault, ScaledInverse, Sign, circuit_from, circuit_of, circuit_with};
+use cayley::{Cell, Point, Problem, Support};
+use int_vectors::IntVec;
+use std::alloc::Global;
+use std::test::Fail;
+
+// The first square, and the corners of its path.
+const FIRST: [(&[i128], i64, u8); 7] = [
+    (&[0, 0], 3, 0),
+    (&[1, 0], 10, 0),
+    (&[0, 1], 20, 0),
+    (&[1, 1], 90, 0),
+    (&[0, 0], 0, 1),
+    (&[2, 0], 0, 1),
+    (&[0, 2], 331, 1),
+];
+
+const SECOND: [(&[i128], i64, u8); 7] = [
+    (&[0, 0], 5, 0),
+    (&[1, 0], 40, 0),
+    (&[0, 1], 9, 0),
+    (&[1, 1], 1, 0),
+    (&[0, 0], 0, 1),
+    (&[2, 0], 365, 1),
+    (&[0, 2], 0, 1),
+];
+
+fn support(alloc: Global, given: &[(&[i128], i64, u8)]) -> Result<Support, Fail> {
+    let mut points = Vec::new(alloc);
+    for (coords, base, speed) in given {
+        let coords = IntVec::from_slice(alloc, coords)?;
+        points.push(Point {
+            coords,
+            base: *base,
+            speed: *speed,
+        })?;
+    }
+    Ok(Support { points, file: 4 })
+}
+
+// The path of the two squares.
+fn squares(alloc: Global) -> Result<Problem, Fail> {
+    let mut supports = Vec::new(alloc);
+    for points in [&FIRST, &SECOND] {
+        supports.push(support(alloc, points)?)?;
+    }
+    Ok(Problem::new(alloc, 2, supports)?)
+}
+
+fn cell_of(alloc: Global, pairs: &[(u32, u32)]) -> Result<Cell, Fail> {
+    match Cell::new(alloc, pairs) {
+        Some(cell) => Ok(cell),
+        None => Err(Fail::from("not a cell")),
+    }
+}
+
+// Whether the problem contains the cell, and the place is a further point of it.
+fn is_further(problem: &Problem, cell: &Cell, support: u32, position: u32) -> bool
+    ensures cell { IsTrue result → IsOf problem.now cell.now }
+    ensures point { IsTrue result → (1 ≤ support) × (support ≤ problem.now.dimension) × IsFurtherAt problem.now cell.now (support - 1) position }
+{
+    if !problem.contains(cell) || support < 1 || problem.dim() < support as usize {
+        return false;
+    }
+    let pair = cell.pairs()[support as usize - 1];
+    let count = problem.count(support);
+    1 <= position && position <= count && position != pair.0 && position != pair.1
+}
+
+#[test]
+fn a_circuit_of_two_squares(rt: HostRuntime) -> Result<(), Fail> {
+    let problem = squares(rt.alloc())?;
+    let cell = cell_of(rt.alloc(), &[(5, 6), (5, 7)])?;
+    assert!(rt; is_further(&problem, &cell, 2, 4));
+    let circuit = circuit_of(rt.alloc(), &problem, &cell, 2, 4)?;
+    assert_eq!(rt; circuit.coefficients.as_slice(), [1, -1, -1, -1, 2].as_slice());
+    assert_eq!(rt; (circuit.scale, circuit.support), (2, 2));
+    assert_eq!(rt; circuit.signs(), [Sign::Minus, Sign::Minus, Sign::Plus]);
+    Ok(())
+}
+
+#[test]
+fn the_same_from_reduced_rows(rt: HostRuntime) -> Result<(), Fail> {
+    let problem = squares(rt.alloc())?;
+    let cell = cell_of(rt.alloc(), &[(5, 6), (5, 7)])?;
+    assert!(rt; is_further(&problem, &cell, 2, 4));
+    let reduced = reduced_of(rt.alloc(), &problem, &cell)?;
+    let circuit = circuit_from(rt.alloc(), &problem, &cell, &reduced, 2, 4)?;
+    assert_eq!(rt; circuit.coefficients.as_slice(), [1, -1, -1, -1, 2].as_slice());
+    assert_eq!(rt; (circuit.scale, circuit.support), (2, 2));
+    Ok(())
+}
+
+#[test]
+fn a_dependent_cell_has_a_kernel(rt: HostRuntime) -> Result<(), Fail> {
+    let problem = squares(rt.alloc())?;
+    let cell = cell_of(rt.alloc(), &[(1, 4), (1, 4)])?;
+    assert!(rt; is_further(&problem, &cell, 1, 2));
+    let answer = circuit_of(rt.alloc(), &problem, &cell, 1, 2);
+    if let Err(CellFault::Dependent { kernel }) = &answer {
+        assert_eq!(rt; kernel.as_slice(), [-1, 1].as_slice());
+        Ok(())
+    } else {
+        Err(Fail::from("not called dependent"))
+    }
+}
