@@ -68,8 +68,10 @@ fn is_further(problem: &Problem, cell: &Cell, support: u32, position: u32) -> bo
         return false;
     }
     let pair = cell.pairs()[support as usize - 1];
-    let count = problem.count(support);
-    1 <= position && position <= count && position != pair.0 && position != pair.1
+    if position < 1 || problem.count(support) < position || position == pair.0 {
+        return false;
+    }
+    position != pair.1
 }
 
 #[test]
