@@ -1,0 +1,14 @@
+//! The wall lines of a cell: one line over time for each further point, whose sign tells where the
+//! point is above.
+#![tactic(auto)]
+
+mod lines;
+mod steps;
+mod sums;
+mod walls;
+
+pub use crossing::WallLine;
+pub use inner_normal::MovingNormal;
+pub use reduced_rows::{CellFault, Reduced};
+pub use steps::Steps;
+pub use walls::{Walls, walls_of};

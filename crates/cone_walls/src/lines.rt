@@ -1,0 +1,115 @@
+ghost use Rattle.std.specs.Prelude.{◌≡◌, ◌<◌, ◌≤◌, ◌++◌, ◌+◌, ℕ, List, MatchResult, IfOk, OnOk, All, length};
+ghost use Rattle.int_vectors.specs.Vectors.{Each};
+ghost use Rattle.cayley.specs.Cells.{EachPair, IsFurther, IsOf};
+ghost use Rattle.cayley.specs.Problems.{point_at};
+ghost use Rattle.cayley.specs.Valid.{IsValidProblem, support_at};
+ghost use Rattle.crossing.specs.Lines.{FitsLine};
+ghost use Rattle.reduced_rows.specs.Refusals.{IsFromFault};
+ghost use Rattle.cone_walls.specs.Listed as listed;
+ghost use Rattle.cone_walls.specs.Listed.{one_line, support_lines, wall_lines};
+ghost use Rattle.cone_walls.specs.Numbers.{FitsWall};
+ghost use Rattle.cone_walls.specs.Workings.{FitsPoint, FitsSupport, FitsWalls};
+
+use crate::sums::line;
+use cayley::{Cell, Problem};
+use crossing::WallLine;
+use inner_normal::MovingNormal;
+use reduced_rows::FromFault;
+use std::alloc::Global;
+
+// Appends the line of the point at a position of support i, unless it is of the pair.
+fn push_line(
+    lines: &mut Vec<WallLine>,
+    problem: &Problem,
+    normal: &MovingNormal,
+    i: u32,
+    pair: (u32, u32),
+    position: u32,
+) -> Result<(), FromFault>
+    requires least { 1 ≤ i }
+    requires greatest { i ≤ problem.now.dimension }
+    requires pair { (1 ≤ pair.0) × (pair.0 ≤ length (support_at problem.now i)) }
+    requires position { (1 ≤ position) × (position ≤ length (support_at problem.now i)) }
+    requires p_long { length normal.now.p ≡ problem.now.dimension }
+    requires q_long { length normal.now.q ≡ problem.now.dimension }
+    requires fit { All FitsLine lines.old.items }
+    ensures made { let s = support_at problem.now i in MatchResult result
+        (λ _. FitsPoint normal.now s pair.0 pair.1 position × (lines.new.items ≡ lines.old.items ++ one_line normal.now i s pair.0 pair.1 position))
+        (IsFromFault (FitsPoint normal.now s pair.0 pair.1 position)) }
+    ensures fit { All FitsLine lines.new.items }
+{
+    if position == pair.0 || position == pair.1 {
+        return Ok(());
+    }
+    let a = problem.point(i, pair.0);
+    let c = problem.point(i, position);
+    let Some(made) = line(normal, i, a, position, c) else {
+        return Err(FromFault::Overflow);
+    };
+    match lines.push(made) {
+        Ok(()) => Ok(()),
+        Err(_) => Err(FromFault::OutOfMemory),
+    }
+}
+
+// Appends the lines of the further points of support i.
+fn push_lines(
+    lines: &mut Vec<WallLine>,
+    problem: &Problem,
+    normal: &MovingNormal,
+    i: u32,
+    pair: (u32, u32),
+) -> Result<(), FromFault>
+    requires least { 1 ≤ i }
+    requires greatest { i ≤ problem.now.dimension }
+    requires pair { (1 ≤ pair.0) × (pair.0 ≤ length (support_at problem.now i)) }
+    requires p_long { length normal.now.p ≡ problem.now.dimension }
+    requires q_long { length normal.now.q ≡ problem.now.dimension }
+    requires fit { All FitsLine lines.old.items }
+    ensures made { let s = support_at problem.now i in MatchResult result
+        (λ _. FitsSupport normal.now s pair.0 pair.1 × (lines.new.items ≡ lines.old.items ++ support_lines normal.now i s pair.0 pair.1))
+        (IsFromFault (FitsSupport normal.now s pair.0 pair.1)) }
+    ensures fit { All FitsLine lines.new.items }
+{
+    for index in 0..problem.count(i) {
+        if let Err(fault) = push_line(lines, problem, normal, i, pair, index + 1) {
+            return Err(fault);
+        }
+    }
+    Ok(())
+}
+
+// How many points the supports have but for the pairs; the count stands still at its type's end.
+fn further_points(problem: &Problem) -> usize {
+    let mut total = 0usize;
+    for i in 0..problem.dim() as u32 {
+        total = total.saturating_add(problem.count(i + 1).saturating_sub(2) as usize);
+    }
+    total
+}
+
+// The lines of all further points.
+pub(crate) fn lines_of(
+    alloc: Global,
+    problem: &Problem,
+    cell: &Cell,
+    normal: &MovingNormal,
+) -> Result<Vec<WallLine>, FromFault>
+    requires of { IsOf problem.now cell.now }
+    requires p_long { length normal.now.p ≡ problem.now.dimension }
+    requires q_long { length normal.now.q ≡ problem.now.dimension }
+    ensures made { MatchResult result
+        (λ lines. FitsWalls problem.now cell.now normal.now × (lines.items ≡ wall_lines normal.now 1 problem.now.supports cell.now))
+        (IsFromFault (FitsWalls problem.now cell.now normal.now)) }
+    ensures fit { IfOk result (λ lines. All FitsLine lines.items) }
+{
+    let Ok(mut lines) = Vec::with_capacity(alloc, further_points(problem)) else {
+        return Err(FromFault::OutOfMemory);
+    };
+    for (i, pair) in cell.pairs().iter().enumerate() {
+        if let Err(fault) = push_lines(&mut lines, problem, normal, i as u32 + 1, *pair) {
+            return Err(fault);
+        }
+    }
+    Ok(lines)
+}
