@@ -19,7 +19,7 @@ use Rattle.cone_walls.proofs.MovingFrame.{as_moving}
 abbrev pub as_line : WallLine → Line
 as_line l = record { start = l.alpha ∷ []; slope = l.beta }
 
-made_of : ℤ → ℤ → Line
+abbrev made_of : ℤ → ℤ → Line
 made_of a b = record { start = a ∷ []; slope = b }
 
 if_same : (t : Bool) (xs ys : List WallLine) (us vs : List Line) → map as_line xs ≡ us → map as_line ys ≡ vs → map as_line (if t then xs else ys) ≡ (if t then us else vs)

@@ -1,5 +1,5 @@
 -- what the answers say of the working and of the cell
-use Rattle.std.proofs.Common.{◌≡◌, ◌↔◌, ℕ, suc, ◌+◌, ◌≤◌, List, ℤ, Result, Ok, Err, IfOk, IfErr, MatchResult, arith, sym, ap, subst, ◌∙◌}
+use Rattle.std.proofs.Common.{◌≡◌, ◌↔◌, ℕ, suc, ◌+◌, ◌≤◌, List, ℤ, Result, Ok, Err, IfOk, IfErr, MatchResult, length, arith, sym, ap, subst, ◌∙◌}
 use Rattle.reduced_rows.specs.declared.faults.CellFault.{CellFault}
 use Rattle.reduced_rows.specs.declared.faults.CellFault.TheVariants.{Overflow, Dependent, OutOfMemory}
 use Rattle.reduced_rows.specs.Steps.{OfLength, elimination, FitsElimination}
@@ -11,7 +11,10 @@ use Rattle.cayley.specs.Rows.{edge_rows}
 use Rattle.cayley.proofs.CellRows.{rows_independent, rows_count, rows_width}
 use Rattle.inner_normal.specs.Kernels.{HasCellKernel}
 use Rattle.inner_normal.proofs.CellAnswers.{cell_kernel, kernel_dependent}
-use Rattle.cone_walls.specs.Workings.{FitsRest, FitsWallWorking}
+use Rattle.inner_normal.specs.declared.moving.MovingNormal.{MovingNormal}
+use Rattle.inner_normal.specs.Workings.{denominator, FitsNormal, IsNormalFrom}
+use Rattle.reduced_rows.specs.Denominators.{shares}
+use Rattle.cone_walls.specs.Workings.{normal_of_rows, FitsWalls, FitsRest, FitsWallWorking}
 
 abbrev from_ok : {A B : Type 0} → A → Result A B → A
 from_ok d (Ok x) = x
@@ -29,6 +32,19 @@ rest_fits p cell made e f = f.1 made e.1
 
 pub working_fits : (p : Problem) (cell : Cell) (made : List (List ℤ)) → IsEliminated p.dimension (edge_rows p cell) made → FitsRest p cell made → FitsWallWorking p cell
 working_fits p cell made e r = (e.0, (λ other q. subst (FitsRest p cell) (ap (from_ok made) (sym e.1 ∙ q)) r))
+
+-- the normal is the one that its rows give
+normal_is : (made : List (List ℤ)) (m : MovingNormal) → IsNormalFrom made m → m ≡ normal_of_rows made
+normal_is made m h =
+    ap (λ (ps : List ℤ). record m { p = ps }) h.resting
+    ∙ ap (λ (qs : List ℤ). record m { p = shares (length made) 0 (denominator made) made; q = qs }) h.moving
+    ∙ ap (λ (d : ℤ). record (normal_of_rows made) { den = d }) h.over
+
+pub rest_from : (p : Problem) (cell : Cell) (made : List (List ℤ)) (m : MovingNormal) → IsNormalFrom made m → FitsNormal (length made) made → FitsWalls p cell m → FitsRest p cell made
+rest_from p cell made m h f w = (f, subst (FitsWalls p cell) (normal_is made m h) w)
+
+pub walls_from : (p : Problem) (cell : Cell) (made : List (List ℤ)) (m : MovingNormal) → IsNormalFrom made m → FitsRest p cell made → FitsWalls p cell m
+walls_from p cell made m h r = subst (FitsWalls p cell) (sym (normal_is made m h)) r.1
 
 module _ {A : Type 0} (P : A → Type 0) (p : Problem) (cell : Cell) where
   pub overflow_answer : (r : Result A CellFault) → ((a : A) → P a → FitsWallWorking p cell) → MatchResult r P (IsCellFault (FitsWallWorking p cell) p.dimension (edge_rows p cell)) → HasAnswer r

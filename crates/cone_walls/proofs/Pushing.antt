@@ -7,7 +7,7 @@ use Rattle.reduced_rows.specs.declared.faults.FromFault.TheVariants.{Overflow, O
 use Rattle.reduced_rows.specs.Refusals.{IsFromFault}
 use Rattle.cayley.specs.Problems.{Point, Problem, origin, point_at}
 use Rattle.cayley.specs.Cells.{Cell, EachPair, IsOf, IsFurther}
-use Rattle.cayley.specs.Valid.{support_at}
+use Rattle.cayley.specs.Valid.{IsValidProblem, support_at}
 use Rattle.crossing.specs.declared.line.WallLine.{WallLine}
 use Rattle.inner_normal.specs.declared.moving.MovingNormal.{MovingNormal}
 use Rattle.cone_walls.specs.Listed.{line_of, one_line, lines_from, support_lines, wall_lines}
@@ -31,15 +31,12 @@ split false true l rest = refl
 split false false l rest = refl
 
 module _ (m : MovingNormal) (i : ℕ) (s : List Point) (a b : ℕ) where
-  abbrev Rest : ℕ → List WallLine
-  Rest k = lines_from m i (point_at s a) a b (k + 1) (drop k s)
-
   point_is : (k : ℕ) → get_or s k origin ≡ point_at s (suc k)
   point_is k = let e : k ≡ suc k - 1 = omega arith in ap (λ z. get_or s z origin) e
 
-  step : (k : ℕ) → k < length s → lines_from m i (point_at s a) a b (k + 1) (drop k s) ≡ one_line m i s a b (k + 1) ++ lines_from m i (point_at s a) a b (k + 1 + 1) (drop (k + 1) s)
-  step k l =
-      rw (add-one, drop-cons s k origin)
+  step : (k j n : ℕ) → k < length s → j ≡ suc k → n ≡ suc (suc k) → lines_from m i (point_at s a) a b j (drop k s) ≡ one_line m i s a b j ++ lines_from m i (point_at s a) a b n (drop j s)
+  step k j n l e f =
+      rw (e, f, drop-cons s k origin)
       (split (suc k == a) (suc k == b) (line_of m i (point_at s a) (suc k) (get_or s k origin)) (lines_from m i (point_at s a) a b (suc (suc k)) (drop (suc k) s))
       ∙ ap (λ (y : Point). (if suc k == a then [] else if suc k == b then [] else line_of m i (point_at s a) (suc k) y ∷ []) ++ lines_from m i (point_at s a) a b (suc (suc k)) (drop (suc k) s)) (point_is k))
 
@@ -48,7 +45,7 @@ module _ (m : MovingNormal) (i : ℕ) (s : List Point) (a b : ℕ) where
   more_lines k old new all l e f =
       ap (λ z. z ++ lines_from m i (point_at s a) a b (k + 1 + 1) (drop (k + 1) s)) f
       ∙ append_assoc old (one_line m i s a b (k + 1)) (lines_from m i (point_at s a) a b (k + 1 + 1) (drop (k + 1) s))
-      ∙ ap (λ z. old ++ z) (sym (step k l)) ∙ e
+      ∙ ap (λ z. old ++ z) (sym (step k (k + 1) (k + 1 + 1) l (omega arith) (omega arith))) ∙ e
 
   pub last_line : (k : ℕ) (old all : List WallLine) → length s ≤ k → old ++ lines_from m i (point_at s a) a b (k + 1) (drop k s) ≡ all → old ≡ all
   last_line k old all l e = sym (append-nil old) ∙ ap (λ (ys : List Point). old ++ lines_from m i (point_at s a) a b (k + 1) ys) (sym (drop_of_length-le s l)) ∙ e
@@ -79,6 +76,12 @@ same_count P [] [] e = refl
 same_count P [] (x ∷ cell) e = absurd e
 same_count P (s ∷ supports) [] e = absurd e
 same_count P (s ∷ supports) (x ∷ cell) e = ap suc (same_count P supports cell e.1)
+
+pub support_inside : (p : Problem) (cell pairs : Cell) → pairs ≡ cell → IsOf p cell → (k : ℕ) → k < length pairs → IsValidProblem p → k + 1 ≤ p.dimension
+support_inside p cell pairs same of k l valid =
+    let h : k < length cell = subst (λ (z : Cell). k < length z) same l in
+    let e = valid.shape.problem.supports in
+    omega (arith, e, (pair_of _ p.supports cell k of h).0)
 
 module _ (m : MovingNormal) (p : Problem) (cell pairs : Cell) (same : pairs ≡ cell) (of : IsOf p cell) (k : ℕ) (l : k < length pairs) where
   inside : k < length cell
@@ -119,9 +122,9 @@ module _ (m : MovingNormal) (p : Problem) (cell pairs : Cell) (same : pairs ≡ 
     (λ e. r.1 (subst (λ T. T) (sym rest_is) (subst (λ T. T) here_is h, e))),
   )
 
-  lines_step : wall_lines m (k + 1) (drop k p.supports) (drop k cell)
-      ≡ support_lines m (k + 1) (get_or p.supports k []) (get_or cell k (0, 0)).0 (get_or cell k (0, 0)).1 ++ wall_lines m (k + 1 + 1) (drop (k + 1) p.supports) (drop (k + 1) cell)
-  lines_step = let a = inside in let b = inside_supports in rw (add-one, drop-cons p.supports k [], drop-cons cell k (0, 0)) refl
+  lines_step : (j n : ℕ) → j ≡ suc k → n ≡ suc (suc k) → wall_lines m j (drop k p.supports) (drop k cell)
+      ≡ support_lines m j (get_or p.supports k []) (get_or cell k (0, 0)).0 (get_or cell k (0, 0)).1 ++ wall_lines m n (drop j p.supports) (drop j cell)
+  lines_step j n e f = let a = inside in let b = inside_supports in rw (e, f, drop-cons p.supports k [], drop-cons cell k (0, 0)) refl
 
   pub more_supports : (old new all : List WallLine) → old ++ wall_lines m (k + 1) (drop k p.supports) (drop k cell) ≡ all
       → new ≡ old ++ support_lines m (k + 1) (support_at p (k + 1)) (get_or pairs k (0, 0)).0 (get_or pairs k (0, 0)).1
@@ -130,7 +133,7 @@ module _ (m : MovingNormal) (p : Problem) (cell pairs : Cell) (same : pairs ≡ 
       let rest = wall_lines m (k + 1 + 1) (drop (k + 1) p.supports) (drop (k + 1) cell) in
       let here = support_lines m (k + 1) (support_at p (k + 1)) (get_or pairs k (0, 0)).0 (get_or pairs k (0, 0)).1 in
       ap (λ z. z ++ rest) f ∙ append_assoc old here rest
-      ∙ ap (λ z. old ++ z) (ap₂ (λ (s : List Point) (x : ℕ × ℕ). support_lines m (k + 1) s x.0 x.1 ++ rest) (sym support_is) (sym pair_is) ∙ sym lines_step) ∙ e
+      ∙ ap (λ z. old ++ z) (ap₂ (λ (s : List Point) (x : ℕ × ℕ). support_lines m (k + 1) s x.0 x.1 ++ rest) (sym support_is) (sym pair_is) ∙ sym (lines_step (k + 1) (k + 1 + 1) (omega arith) (omega arith))) ∙ e
 
 pub no_supports : (m : MovingNormal) (p : Problem) (cell : Cell) (k : ℕ) → IsOf p cell → length cell ≤ k → (FitsWalls p cell m ↔ EachPair (drop k p.supports) (drop k cell) (FitsSupport m)) → FitsWalls p cell m
 no_supports m p cell k of l r =

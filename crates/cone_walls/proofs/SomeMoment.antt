@@ -35,7 +35,9 @@ one_from v b n (inl h) l =
 
     sum_by : (z b : ℤ) (n : ℕ) → pos (suc n) ≤ℤ z → unsigned_abs b ≤ n → pos 0 <ℤ (z +ℤ b)
     sum_by z b n h l = omega (arith, ints, h, l)
-one_from v b n (inr h) l = rw (h.0, *ℤ-zero (pos (suc n))) (let k = h.1 in omega (arith, ints, k))
+one_from v b n (inr h) l =
+    let e : pos (suc n) *ℤ v ≡ pos 0 = ap (λ z. pos (suc n) *ℤ z) h.0 ∙ *ℤ-zero (pos (suc n)) in
+    subst (λ z. pos 0 <ℤ (z +ℤ b)) (sym e) (let k = h.1 in omega (arith, ints, k))
 
 all_from : (q e d : ℤ) (lines : List WallLine) → Each lines (Weak q e d) → From q e d lines
 all_from q e d [] h = record { least = 0; holds = λ n l. tt }

@@ -12,3 +12,6 @@ pub use inner_normal::MovingNormal;
 pub use reduced_rows::{CellFault, Reduced};
 pub use steps::Steps;
 pub use walls::{Walls, walls_of};
+
+#[cfg(test)]
+mod tests;

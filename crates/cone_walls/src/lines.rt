@@ -103,6 +103,7 @@ pub(crate) fn lines_of(
         (IsFromFault (FitsWalls problem.now cell.now normal.now)) }
     ensures fit { IfOk result (λ lines. All FitsLine lines.items) }
 {
+    let _dim = problem.dim();
     let Ok(mut lines) = Vec::with_capacity(alloc, further_points(problem)) else {
         return Err(FromFault::OutOfMemory);
     };

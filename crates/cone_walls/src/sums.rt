@@ -41,14 +41,16 @@ fn dot_between(start: i128, a: &[i128], c: &[i128], v: &[i128]) -> Option<i128>
 
 // How much higher c is than a at the time 0.
 fn base_difference(a: i64, c: i64) -> i128
-    ensures { result ≡ c -ℤ a }
+    ensures value { result ≡ c -ℤ a }
+    ensures fits { FitsWhole result }
 {
     c as i128 - a as i128
 }
 
 // How much faster c rises than a.
 fn speed_difference(a: u8, c: u8) -> i128
-    ensures { result ≡ pos c -ℤ pos a }
+    ensures value { result ≡ pos c -ℤ pos a }
+    ensures fits { FitsWhole result }
 {
     c as i128 - a as i128
 }

@@ -1,0 +1,189 @@
+ghost use Rattle.std.specs.Prelude.{◌≡◌, ◌+◌, ◌<◌, ◌×◌};
+ghost use Rattle.cayley.specs.Cells.{IsOf};
+
+use crate::{CellFault, Steps, WallLine, Walls, walls_of};
+use cayley::{Cell, Point, Problem, Support};
+use crossing::{Entry, Exit, entry_of, exit_of};
+use int_vectors::IntVec;
+use std::alloc::Global;
+use std::marker::Brand;
+use std::sync::ledger::{Blank, Ledger};
+use std::test::Fail;
+use wide_int::Frac;
+
+// Two squares, and the corners of their path.
+const FIRST: [(&[i128], i64, u8); 7] = [
+    (&[0, 0], 3, 0),
+    (&[1, 0], 10, 0),
+    (&[0, 1], 20, 0),
+    (&[1, 1], 90, 0),
+    (&[0, 0], 0, 1),
+    (&[2, 0], 0, 1),
+    (&[0, 2], 100, 1),
+];
+
+const SECOND: [(&[i128], i64, u8); 7] = [
+    (&[0, 0], 5, 0),
+    (&[1, 0], 40, 0),
+    (&[0, 1], 9, 0),
+    (&[1, 1], 1, 0),
+    (&[0, 0], 0, 1),
+    (&[2, 0], 100, 1),
+    (&[0, 2], 0, 1),
+];
+
+fn support(alloc: Global, given: &[(&[i128], i64, u8)]) -> Result<Support, Fail> {
+    let mut points = Vec::new(alloc);
+    for (coords, base, speed) in given {
+        let coords = IntVec::from_slice(alloc, coords)?;
+        points.push(Point {
+            coords,
+            base: *base,
+            speed: *speed,
+        })?;
+    }
+    Ok(Support { points, file: 4 })
+}
+
+fn squares(alloc: Global) -> Result<Problem, Fail> {
+    let mut supports = Vec::new(alloc);
+    for points in [&FIRST, &SECOND] {
+        supports.push(support(alloc, points)?)?;
+    }
+    Ok(Problem::new(alloc, 2, supports)?)
+}
+
+// The walls, by a counter of their own.
+fn walls<L: Ledger>(
+    alloc: Global,
+    problem: &Problem,
+    cell: &Cell,
+    blank: Blank,
+) -> Result<Walls, CellFault>
+    requires ledger { (blank.name ≡ L.name) × (blank.parts ≡ L.parts) × (0 < blank.parts) }
+    requires of { IsOf problem.now cell.now }
+{
+    let mut steps = Steps::<L>::new(blank);
+    walls_of(alloc, problem, cell, &mut steps)
+}
+
+// Each call is a step, whatever it answers.
+fn twice<L: Ledger>(
+    alloc: Global,
+    problem: &Problem,
+    cell: &Cell,
+    steps: &mut Steps<L>,
+) -> Result<Walls, CellFault>
+    requires { IsOf problem.now cell.now }
+    ensures { steps.new ≡ steps.old + 2 }
+{
+    let first = walls_of(alloc, problem, cell, steps);
+    drop(first);
+    walls_of(alloc, problem, cell, steps)
+}
+
+// The walls of a cell of the two squares.
+fn walls_at(alloc: Global, pairs: &[(u32, u32)]) -> Result<Option<Result<Walls, CellFault>>, Fail> {
+    let problem = squares(alloc)?;
+    let Some(cell) = Cell::new(alloc, pairs) else {
+        return Ok(None);
+    };
+    if problem.contains(&cell) {
+        Ok(Some(walls::<Brand>(alloc, &problem, &cell, Blank::new(1))))
+    } else {
+        Ok(None)
+    }
+}
+
+// The numbers of the lines one after the other.
+fn numbers(alloc: Global, lines: &[WallLine]) -> Result<Vec<i128>, Fail> {
+    let mut all = Vec::new(alloc);
+    for line in lines {
+        all.push(i128::from(line.support))?;
+        all.push(i128::from(line.position))?;
+        all.push(line.alpha)?;
+        all.push(line.beta)?;
+    }
+    Ok(all)
+}
+
+#[test]
+fn lines_of_the_start_cell(rt: HostRuntime) -> Result<(), Fail> {
+    let answer = walls_at(rt.alloc(), &[(5, 6), (5, 7)])?;
+    if let Some(Ok(walls)) = &answer {
+        let all = numbers(rt.alloc(), &walls.lines)?;
+        assert_eq!(rt; all.as_slice(), [
+            1, 1, 6, -2, 1, 2, 20, -2, 1, 3, 40, -2, 1, 4, 180, -2, 1, 7, 200, 0,
+            2, 1, 10, -2, 2, 2, 80, -2, 2, 3, 18, -2, 2, 4, 2, -2, 2, 6, 200, 0,
+        ].as_slice());
+    } else {
+        assert!(rt; false, "the cell has lines");
+    }
+    Ok(())
+}
+
+#[test]
+fn lines_of_an_inner_cell(rt: HostRuntime) -> Result<(), Fail> {
+    let answer = walls_at(rt.alloc(), &[(1, 6), (4, 5)])?;
+    if let Some(Ok(walls)) = &answer {
+        assert_eq!(rt; walls.reduced.row(1).as_slice(), [2, 0, -3, 1, 1, 0].as_slice());
+        assert_eq!(rt; walls.normal.p.as_slice(), [3, -5].as_slice());
+        assert_eq!(rt; walls.normal.q.as_slice(), [-1, 3].as_slice());
+        assert_eq!(rt; walls.normal.den, 2);
+        let all = numbers(rt.alloc(), &walls.lines)?;
+        assert_eq!(rt; all.as_slice(), [
+            1, 2, 17, -1, 1, 3, 29, 3, 1, 4, 172, 2, 1, 5, -6, 2, 1, 7, 184, 8,
+            2, 1, 10, -2, 2, 2, 83, -3, 2, 3, 13, 1, 2, 6, 206, -2, 2, 7, -10, 6,
+        ].as_slice());
+    } else {
+        assert!(rt; false, "the cell has lines");
+    }
+    Ok(())
+}
+
+#[test]
+fn ends_of_an_inner_cell(rt: HostRuntime) -> Result<(), Fail> {
+    let answer = walls_at(rt.alloc(), &[(1, 6), (4, 5)])?;
+    if let Some(Ok(walls)) = &answer {
+        let entry = entry_of(&walls.lines);
+        let exit = exit_of(&walls.lines);
+        let first = Frac::lowest(3, 1).unwrap();
+        let last = Frac::lowest(5, 1).unwrap();
+        assert_eq!(rt; entry, Entry::At { time: first, which: 4 });
+        assert_eq!(rt; exit, Exit::At { time: last, which: 6 });
+    } else {
+        assert!(rt; false, "the cell has lines");
+    }
+    Ok(())
+}
+
+#[test]
+fn a_dependent_cell(rt: HostRuntime) -> Result<(), Fail> {
+    let answer = walls_at(rt.alloc(), &[(1, 4), (1, 4)])?;
+    if let Some(Err(CellFault::Dependent { kernel })) = &answer {
+        assert_eq!(rt; kernel.as_slice(), [-1, 1].as_slice());
+    } else {
+        assert!(rt; false, "the cell is dependent");
+    }
+    Ok(())
+}
+
+fn counted<L: Ledger>(alloc: Global, problem: &Problem, cell: &Cell, blank: Blank) -> bool
+    requires ledger { (blank.name ≡ L.name) × (blank.parts ≡ L.parts) × (0 < blank.parts) }
+    requires of { IsOf problem.now cell.now }
+{
+    let mut steps = Steps::<L>::new(blank);
+    twice(alloc, problem, cell, &mut steps).is_ok()
+}
+
+#[test]
+fn two_calls_are_two_steps(rt: HostRuntime) -> Result<(), Fail> {
+    let problem = squares(rt.alloc())?;
+    if let Some(cell) = Cell::new(rt.alloc(), &[(5, 6), (5, 7)]) {
+        if problem.contains(&cell) {
+            let found = counted::<Brand>(rt.alloc(), &problem, &cell, Blank::new(1));
+            assert!(rt; found);
+        }
+    }
+    Ok(())
+}
