@@ -6,17 +6,16 @@ use Rattle.reduced_rows.specs.declared.faults.CellFault.TheVariants as cell_faul
 use Rattle.reduced_rows.specs.declared.faults.ReduceFault.{ReduceFault}
 use Rattle.reduced_rows.specs.declared.faults.FromFault.{FromFault}
 use Rattle.reduced_rows.specs.declared.faults.FromFault.TheVariants as from_faults
-use Rattle.reduced_rows.specs.CellRefusals.{IsEliminated, IsCellFault, HasAnswer, IsCellDependent, CellOverflowExactly}
+use Rattle.reduced_rows.specs.CellRefusals.{IsEliminated, IsCellFault, OnDependent, HasAnswer, IsCellDependent, CellOverflowExactly}
 use Rattle.reduced_rows.specs.Refusals.{IsFromFault}
 use Rattle.reduced_rows.specs.Spans.{IsKernelOf}
 use Rattle.reduced_rows.specs.Steps.{OfLength, elimination, FitsElimination}
 use Rattle.cayley.specs.Problems.{Problem, IsProblem}
-use Rattle.cayley.specs.Cells.{Cell, IsOf, IsIndependent}
+use Rattle.cayley.specs.Cells.{Cell, IsOf, IsIndependent, IsCellKernel}
 use Rattle.cayley.specs.Rows.{edge_rows}
 use Rattle.cayley.proofs.CellRows.{rows_count, rows_width, rows_independent, independent_rows, pairs_from_rows}
 use Rattle.circuit.specs.declared.circuits.Circuit.{Circuit}
 use Rattle.circuit.specs.Inverses.{Inverse, inverse_of, FitsInverse}
-use Rattle.circuit.specs.Kernels.{HasCellKernel}
 use Rattle.circuit.specs.Workings.{difference, FitsCoefficients, IsCircuitFrom, FitsCircuit, FitsCircuitWorking, IsCircuitOfRows}
 use Rattle.circuit.proofs.Faults.{fault_other}
 use Rattle.circuit.proofs.Meaning.{reduced_of}
@@ -86,7 +85,7 @@ module _ (p : Problem) (cell : Cell) (j c : ℕ) where
   dependent_answer well of (Err (cell_faults.Dependent kernel)) h a = ((λ _. (h.0, λ ind. h.2.other (independent_rows p cell well of ind kernel h.2.long h.2.orthogonal))), (λ _. tt))
   dependent_answer well of (Err cell_faults.OutOfMemory) h a = absurd a
 
-  pub kernel_answer : IsProblem p → IsOf p cell → (r : Result Circuit CellFault) → MatchResult r (IsCircuitOfRows p cell j c) (IsCellFault (FitsCircuitWorking p cell j c) p.dimension (edge_rows p cell)) → IfErr r (HasCellKernel p cell)
+  pub kernel_answer : IsProblem p → IsOf p cell → (r : Result Circuit CellFault) → MatchResult r (IsCircuitOfRows p cell j c) (IsCellFault (FitsCircuitWorking p cell j c) p.dimension (edge_rows p cell)) → IfErr r (OnDependent (IsCellKernel p cell))
   kernel_answer well of (Ok x) h = tt
   kernel_answer well of (Err cell_faults.Overflow) h = tt
   kernel_answer well of (Err (cell_faults.Dependent kernel)) h = record {

@@ -1,4 +1,3 @@
 pub mod Inverses
 pub mod Workings
 pub mod Circuits
-pub mod Kernels

@@ -2,10 +2,10 @@ ghost use Rattle.std.specs.Prelude.{◌≡◌, ◌↔◌, ◌-◌, ◌≤◌, �
 ghost use Rattle.wide_int.specs.Whole.{FitsWhole};
 ghost use Rattle.int_vectors.specs.Fits.{AllFit};
 ghost use Rattle.int_vectors.specs.Vectors.{Each, sub};
-ghost use Rattle.reduced_rows.specs.CellRefusals.{IsEliminated, IsCellFault, HasAnswer, IsCellDependent, CellOverflowExactly};
+ghost use Rattle.reduced_rows.specs.CellRefusals.{IsEliminated, IsCellFault, OnDependent, HasAnswer, IsCellDependent, CellOverflowExactly};
 ghost use Rattle.reduced_rows.specs.Refusals.{IsFromFault};
 ghost use Rattle.reduced_rows.specs.Steps.{FitsElimination};
-ghost use Rattle.cayley.specs.Cells.{IsOf, IsIndependent};
+ghost use Rattle.cayley.specs.Cells.{IsOf, IsIndependent, IsCellKernel};
 ghost use Rattle.cayley.specs.Dependencies.{support_at, pair_at, IsFurtherAt};
 ghost use Rattle.cayley.specs.Problems as problems;
 ghost use Rattle.cayley.specs.Problems.{point_at, HasSamePoints};
@@ -13,7 +13,6 @@ ghost use Rattle.cayley.specs.Rows.{edge_rows};
 ghost use Rattle.cayley.specs.Valid.{IsCornerCoordinate, IsValidProblem};
 ghost use Rattle.circuit.specs.Circuits.{IsCircuit};
 ghost use Rattle.circuit.specs.Inverses.{inverse_of, IsInverseOf};
-ghost use Rattle.circuit.specs.Kernels.{HasCellKernel};
 ghost use Rattle.circuit.specs.Workings.{coefficients_of, difference, FitsCoefficients, IsCircuitFrom, IsCircuitOfRows, FitsCircuit, FitsCircuitWorking};
 
 use crate::circuits::Circuit;
@@ -187,7 +186,7 @@ pub fn circuit_of(
     ensures dependent { HasAnswer result → IsCellDependent result
         ↔ (FitsElimination problem.now.dimension (edge_rows problem.now cell.now) × ¬ (IsIndependent problem.now cell.now)) }
     // Dependent: the kernel isn't zero, and it is orthogonal to each difference of the pairs.
-    ensures kernel { IfErr result (HasCellKernel problem.now cell.now) }
+    ensures kernel { IfErr result (OnDependent (IsCellKernel problem.now cell.now)) }
     // The numbers that come out are those of the working.
     ensures working { MatchResult result
         (IsCircuitOfRows problem.now cell.now (support - 1) position)

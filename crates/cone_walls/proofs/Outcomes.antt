@@ -3,13 +3,12 @@ use Rattle.std.proofs.Common.{◌≡◌, ◌↔◌, ℕ, suc, ◌+◌, ◌≤◌
 use Rattle.reduced_rows.specs.declared.faults.CellFault.{CellFault}
 use Rattle.reduced_rows.specs.declared.faults.CellFault.TheVariants.{Overflow, Dependent, OutOfMemory}
 use Rattle.reduced_rows.specs.Steps.{OfLength, elimination, FitsElimination}
-use Rattle.reduced_rows.specs.CellRefusals.{IsEliminated, IsCellFault, HasAnswer, IsCellDependent, CellOverflowExactly}
+use Rattle.reduced_rows.specs.CellRefusals.{IsEliminated, IsCellFault, OnDependent, HasAnswer, IsCellDependent, CellOverflowExactly}
 use Rattle.reduced_rows.proofs.Outcome.{reduced_means}
 use Rattle.cayley.specs.Problems.{Problem, IsProblem}
-use Rattle.cayley.specs.Cells.{Cell, IsOf, IsIndependent}
+use Rattle.cayley.specs.Cells.{Cell, IsOf, IsIndependent, IsCellKernel}
 use Rattle.cayley.specs.Rows.{edge_rows}
 use Rattle.cayley.proofs.CellRows.{rows_independent, rows_count, rows_width}
-use Rattle.inner_normal.specs.Kernels.{HasCellKernel}
 use Rattle.inner_normal.proofs.CellAnswers.{cell_kernel, kernel_dependent}
 use Rattle.inner_normal.specs.declared.moving.MovingNormal.{MovingNormal}
 use Rattle.inner_normal.specs.Workings.{denominator, FitsNormal, IsNormalFrom}
@@ -64,7 +63,7 @@ module _ {A : Type 0} (P : A → Type 0) (p : Problem) (cell : Cell) where
   dependent_answer (Err (Dependent kernel)) well of f h m = ((λ _. (h.0, kernel_dependent p cell kernel (cell_kernel p cell kernel well of h.2))), (λ _. tt))
   dependent_answer (Err OutOfMemory) well of f h m = absurd m
 
-  pub kernel_answer : (r : Result A CellFault) → IsProblem p → IsOf p cell → MatchResult r P (IsCellFault (FitsWallWorking p cell) p.dimension (edge_rows p cell)) → IfErr r (HasCellKernel p cell)
+  pub kernel_answer : (r : Result A CellFault) → IsProblem p → IsOf p cell → MatchResult r P (IsCellFault (FitsWallWorking p cell) p.dimension (edge_rows p cell)) → IfErr r (OnDependent (IsCellKernel p cell))
   kernel_answer (Ok a) well of h = tt
   kernel_answer (Err Overflow) well of h = tt
   kernel_answer (Err (Dependent kernel)) well of h = cell_kernel p cell kernel well of h.2

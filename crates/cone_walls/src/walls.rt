@@ -1,16 +1,15 @@
 ghost use Rattle.std.specs.Prelude.{◌≡◌, ◌↔◌, ◌+◌, All, IfOk, IfErr, MatchResult};
 ghost use Rattle.int_vectors.specs.Vectors.{Each};
-ghost use Rattle.cayley.specs.Cells.{IsOf, IsIndependent};
+ghost use Rattle.cayley.specs.Cells.{IsOf, IsIndependent, IsCellKernel};
 ghost use Rattle.cayley.specs.Problems as problems;
 ghost use Rattle.cayley.specs.Problems.{unperturbed, HasSamePoints};
 ghost use Rattle.cayley.specs.Rows.{edge_rows};
 ghost use Rattle.crossing.specs.Entries.{IsEntry};
 ghost use Rattle.crossing.specs.Lines.{FitsLine};
 ghost use Rattle.crossing.specs.declared.entry.Entry.TheVariants as entry;
-ghost use Rattle.inner_normal.specs.Kernels.{HasCellKernel};
 ghost use Rattle.inner_normal.specs.MovingNormals.{IsMovingNormal};
 ghost use Rattle.inner_normal.specs.Workings.{IsNormalFrom};
-ghost use Rattle.reduced_rows.specs.CellRefusals.{IsEliminated, IsCellFault, HasAnswer, IsCellDependent, CellOverflowExactly};
+ghost use Rattle.reduced_rows.specs.CellRefusals.{IsEliminated, IsCellFault, OnDependent, HasAnswer, IsCellDependent, CellOverflowExactly};
 ghost use Rattle.reduced_rows.specs.Refusals.{IsFault, IsFromFault};
 ghost use Rattle.reduced_rows.specs.Steps.{FitsElimination};
 ghost use Rattle.cone_walls.specs.Lives.{IsNeverAlive, LivesBetween};
@@ -123,7 +122,7 @@ pub fn walls_of<L: Ledger>(
     ensures dependent { HasAnswer result → IsCellDependent result
         ↔ (FitsElimination problem.now.dimension (edge_rows problem.now cell.now) × ¬ (IsIndependent problem.now cell.now)) }
     // Dependent: the kernel isn't zero, and it is orthogonal to each difference of the pairs.
-    ensures kernel { IfErr result (HasCellKernel problem.now cell.now) }
+    ensures kernel { IfErr result (OnDependent (IsCellKernel problem.now cell.now)) }
 {
     let _dim = problem.dim();
     steps.tick();
