@@ -94,7 +94,7 @@ fn made_walls(alloc: Global, problem: &Problem, cell: &Cell) -> Result<Walls, Ce
 /// fit, else `Dependent` exactly where the differences are dependent. Each call is a step.
 ///
 /// The line of point c of a support is `den` times how much higher c stands than the first point of
-/// the support's pair, under the cell's normal over `den` (after Jensen 2016).
+/// the support's pair, under the cell's normal over `den` (walls, in outline after Jensen 2016).
 pub fn walls_of<L: Ledger>(
     alloc: Global,
     problem: &Problem,
