@@ -1,5 +1,6 @@
-ghost use Rattle.std.specs.Prelude.{◌≡◌, ◌+◌, ◌<◌, ◌×◌};
+ghost use Rattle.std.specs.Prelude.{◌≡◌, ◌+◌, ◌<◌, All, IfOk};
 ghost use Rattle.cayley.specs.Cells.{IsOf};
+ghost use Rattle.crossing.specs.Lines.{FitsLine};
 
 use crate::{CellFault, Steps, WallLine, Walls, walls_of};
 use cayley::{Cell, Point, Problem, Support};
@@ -53,18 +54,12 @@ fn squares(alloc: Global) -> Result<Problem, Fail> {
     Ok(Problem::new(alloc, 2, supports)?)
 }
 
-// The walls, by a counter of their own.
-fn walls<L: Ledger>(
-    alloc: Global,
-    problem: &Problem,
-    cell: &Cell,
-    blank: Blank,
-) -> Result<Walls, CellFault>
-    requires ledger { (blank.name ≡ L.name) × (blank.parts ≡ L.parts) × (0 < blank.parts) }
-    requires of { IsOf problem.now cell.now }
-{
-    let mut steps = Steps::<L>::new(blank);
-    walls_of(alloc, problem, cell, &mut steps)
+// The walls of a cell and the two ends of its lines.
+#[derive(Drop)]
+struct View {
+    walls: Walls,
+    entry: Entry,
+    exit: Exit,
 }
 
 // Each call is a step, whatever it answers.
@@ -75,21 +70,42 @@ fn twice<L: Ledger>(
     steps: &mut Steps<L>,
 ) -> Result<Walls, CellFault>
     requires { IsOf problem.now cell.now }
-    ensures { steps.new ≡ steps.old + 2 }
+    ensures steps { steps.new ≡ steps.old + 2 }
+    ensures fit { IfOk result (λ w. All FitsLine w.lines.items) }
 {
     let first = walls_of(alloc, problem, cell, steps);
     drop(first);
     walls_of(alloc, problem, cell, steps)
 }
 
-// The walls of a cell of the two squares.
-fn walls_at(alloc: Global, pairs: &[(u32, u32)]) -> Result<Option<Result<Walls, CellFault>>, Fail> {
+// By a counter of its own.
+fn seen<L: Ledger>(
+    alloc: Global,
+    problem: &Problem,
+    cell: &Cell,
+    blank: Blank,
+) -> Result<View, CellFault>
+    requires ledger { (blank.name ≡ L.name) × (blank.parts ≡ L.parts) × (0 < blank.parts) }
+    requires of { IsOf problem.now cell.now }
+{
+    let mut steps = Steps::<L>::new(blank);
+    let walls = match twice(alloc, problem, cell, &mut steps) {
+        Ok(walls) => walls,
+        Err(fault) => return Err(fault),
+    };
+    let entry = entry_of(&walls.lines);
+    let exit = exit_of(&walls.lines);
+    Ok(View { walls, entry, exit })
+}
+
+// What is seen of a cell of the two squares.
+fn seen_at(alloc: Global, pairs: &[(u32, u32)]) -> Result<Option<Result<View, CellFault>>, Fail> {
     let problem = squares(alloc)?;
     let Some(cell) = Cell::new(alloc, pairs) else {
         return Ok(None);
     };
     if problem.contains(&cell) {
-        Ok(Some(walls::<Brand>(alloc, &problem, &cell, Blank::new(1))))
+        Ok(Some(seen::<Brand>(alloc, &problem, &cell, Blank::new(1))))
     } else {
         Ok(None)
     }
@@ -109,13 +125,15 @@ fn numbers(alloc: Global, lines: &[WallLine]) -> Result<Vec<i128>, Fail> {
 
 #[test]
 fn lines_of_the_start_cell(rt: HostRuntime) -> Result<(), Fail> {
-    let answer = walls_at(rt.alloc(), &[(5, 6), (5, 7)])?;
-    if let Some(Ok(walls)) = &answer {
-        let all = numbers(rt.alloc(), &walls.lines)?;
-        assert_eq!(rt; all.as_slice(), [
-            1, 1, 6, -2, 1, 2, 20, -2, 1, 3, 40, -2, 1, 4, 180, -2, 1, 7, 200, 0,
-            2, 1, 10, -2, 2, 2, 80, -2, 2, 3, 18, -2, 2, 4, 2, -2, 2, 6, 200, 0,
-        ].as_slice());
+    let answer = seen_at(rt.alloc(), &[(5, 6), (5, 7)])?;
+    if let Some(Ok(seen)) = &answer {
+        let all = numbers(rt.alloc(), &seen.walls.lines)?;
+        let want = [
+            1, 1, 6, -2, 1, 2, 20, -2, 1, 3, 40, -2, 1, 4, 180, -2, 1, 7, 200, 0, 2, 1, 10, -2, 2,
+            2, 80, -2, 2, 3, 18, -2, 2, 4, 2, -2, 2, 6, 200, 0,
+        ];
+        assert_eq!(rt; all.as_slice(), want.as_slice());
+        assert_eq!(rt; seen.entry, Entry::Always);
     } else {
         assert!(rt; false, "the cell has lines");
     }
@@ -124,17 +142,19 @@ fn lines_of_the_start_cell(rt: HostRuntime) -> Result<(), Fail> {
 
 #[test]
 fn lines_of_an_inner_cell(rt: HostRuntime) -> Result<(), Fail> {
-    let answer = walls_at(rt.alloc(), &[(1, 6), (4, 5)])?;
-    if let Some(Ok(walls)) = &answer {
-        assert_eq!(rt; walls.reduced.row(1).as_slice(), [2, 0, -3, 1, 1, 0].as_slice());
-        assert_eq!(rt; walls.normal.p.as_slice(), [3, -5].as_slice());
-        assert_eq!(rt; walls.normal.q.as_slice(), [-1, 3].as_slice());
-        assert_eq!(rt; walls.normal.den, 2);
-        let all = numbers(rt.alloc(), &walls.lines)?;
-        assert_eq!(rt; all.as_slice(), [
-            1, 2, 17, -1, 1, 3, 29, 3, 1, 4, 172, 2, 1, 5, -6, 2, 1, 7, 184, 8,
-            2, 1, 10, -2, 2, 2, 83, -3, 2, 3, 13, 1, 2, 6, 206, -2, 2, 7, -10, 6,
-        ].as_slice());
+    let answer = seen_at(rt.alloc(), &[(1, 6), (4, 5)])?;
+    if let Some(Ok(seen)) = &answer {
+        let normal = &seen.walls.normal;
+        assert_eq!(rt; normal.p.as_slice(), [3, -5].as_slice());
+        assert_eq!(rt; normal.q.as_slice(), [-1, 3].as_slice());
+        assert_eq!(rt; normal.den, 2);
+        assert_eq!(rt; seen.walls.reduced.count(), 2);
+        let all = numbers(rt.alloc(), &seen.walls.lines)?;
+        let want = [
+            1, 2, 17, -1, 1, 3, 29, 3, 1, 4, 172, 2, 1, 5, -6, 2, 1, 7, 184, 8, 2, 1, 10, -2, 2,
+            2, 83, -3, 2, 3, 13, 1, 2, 6, 206, -2, 2, 7, -10, 6,
+        ];
+        assert_eq!(rt; all.as_slice(), want.as_slice());
     } else {
         assert!(rt; false, "the cell has lines");
     }
@@ -143,14 +163,12 @@ fn lines_of_an_inner_cell(rt: HostRuntime) -> Result<(), Fail> {
 
 #[test]
 fn ends_of_an_inner_cell(rt: HostRuntime) -> Result<(), Fail> {
-    let answer = walls_at(rt.alloc(), &[(1, 6), (4, 5)])?;
-    if let Some(Ok(walls)) = &answer {
-        let entry = entry_of(&walls.lines);
-        let exit = exit_of(&walls.lines);
+    let answer = seen_at(rt.alloc(), &[(1, 6), (4, 5)])?;
+    if let Some(Ok(seen)) = &answer {
         let first = Frac::lowest(3, 1).unwrap();
         let last = Frac::lowest(5, 1).unwrap();
-        assert_eq!(rt; entry, Entry::At { time: first, which: 4 });
-        assert_eq!(rt; exit, Exit::At { time: last, which: 6 });
+        assert_eq!(rt; seen.entry, Entry::At { time: first, which: 4 });
+        assert_eq!(rt; seen.exit, Exit::At { time: last, which: 6 });
     } else {
         assert!(rt; false, "the cell has lines");
     }
@@ -159,31 +177,11 @@ fn ends_of_an_inner_cell(rt: HostRuntime) -> Result<(), Fail> {
 
 #[test]
 fn a_dependent_cell(rt: HostRuntime) -> Result<(), Fail> {
-    let answer = walls_at(rt.alloc(), &[(1, 4), (1, 4)])?;
+    let answer = seen_at(rt.alloc(), &[(1, 4), (1, 4)])?;
     if let Some(Err(CellFault::Dependent { kernel })) = &answer {
         assert_eq!(rt; kernel.as_slice(), [-1, 1].as_slice());
     } else {
         assert!(rt; false, "the cell is dependent");
-    }
-    Ok(())
-}
-
-fn counted<L: Ledger>(alloc: Global, problem: &Problem, cell: &Cell, blank: Blank) -> bool
-    requires ledger { (blank.name ≡ L.name) × (blank.parts ≡ L.parts) × (0 < blank.parts) }
-    requires of { IsOf problem.now cell.now }
-{
-    let mut steps = Steps::<L>::new(blank);
-    twice(alloc, problem, cell, &mut steps).is_ok()
-}
-
-#[test]
-fn two_calls_are_two_steps(rt: HostRuntime) -> Result<(), Fail> {
-    let problem = squares(rt.alloc())?;
-    if let Some(cell) = Cell::new(rt.alloc(), &[(5, 6), (5, 7)]) {
-        if problem.contains(&cell) {
-            let found = counted::<Brand>(rt.alloc(), &problem, &cell, Blank::new(1));
-            assert!(rt; found);
-        }
     }
     Ok(())
 }
