@@ -1,9 +1,9 @@
 -- all lines are positive exactly after the entry's time and before the exit's
-use Rattle.std.proofs.Common.{◌≡◌, ◌↔◌, inl, inr, ℕ, zero, suc, ◌+◌, ◌-◌, ◌<◌, ◌≤◌, List, [], ◌∷◌, length, map, arith, refl, sym, ap, subst, ◌∙◌, ◌<ℤ◌, ◌≤ℤ◌}
+use Rattle.std.proofs.Common.{◌≡◌, ◌↔◌, inl, inr, ℕ, zero, suc, ◌-◌, ◌≤◌, List, [], ◌∷◌, length, arith, sym, ap, subst, ◌∙◌, ◌<ℤ◌, ◌≤ℤ◌}
 use Rattle.std.proofs.lemmas.Int.{ints}
 use Rattle.std.specs.Prelude.{slice_index_or}
 use Rattle.std.proofs.Math.IntN.{ℤ, pos, ◌+ℤ◌, ◌*ℤ◌, neg_ℤ, *ℤ-zero}
-use Rattle.wide_int.specs.Fractions.{Fraction, IsLowest}
+use Rattle.wide_int.specs.Fractions.{Fraction}
 use Rattle.wide_int.proofs.Ring.{as_D, Ds, same_D, D-pos}
 use Rattle.wide_int.proofs.Order.{sign_cases, mul_pos_ℤ, mul_le_ℤ}
 use Rattle.int_vectors.specs.Vectors.{Each, add, scale, at}
@@ -18,8 +18,8 @@ use Rattle.crossing.specs.declared.entry.Entry.{Entry}
 use Rattle.crossing.specs.declared.entry.Entry.TheVariants as entry
 use Rattle.crossing.specs.declared.exit.Exit.{Exit}
 use Rattle.crossing.specs.declared.exit.Exit.TheVariants as exit
-use Rattle.crossing.specs.Lines.{value_at, Falls, Rises, IsFlat}
-use Rattle.crossing.specs.Places.{HasAt, origin}
+use Rattle.crossing.specs.Lines.{value_at, Falls, Rises}
+use Rattle.crossing.specs.Places.{origin}
 use Rattle.crossing.specs.Entries.{IsGreatestRise, LiveSometime, IsEntry}
 use Rattle.crossing.specs.Exits.{IsLeastFall, IsExit}
 use Rattle.cone_walls.specs.Sides.{value, moment}

@@ -1,10 +1,9 @@
 -- what is said of the lines that are made
-use Rattle.std.proofs.Common.{◌≡◌, ◌↔◌, inl, List, ℤ, pos, ◌<ℤ◌, map, refl, sym, subst, ◌∙◌}
-use Rattle.std.specs.Prelude.{All}
+use Rattle.std.proofs.Common.{◌↔◌, List, ℤ, refl, sym, subst}
 use Rattle.int_vectors.specs.Vectors.{Each}
 use Rattle.cayley.specs.Times.{Time, IsPositive}
-use Rattle.cayley.specs.Problems.{Problem, IsProblem, unperturbed, HasSamePoints}
-use Rattle.cayley.specs.Cells.{Cell, IsOf, IsIndependent}
+use Rattle.cayley.specs.Problems.{Problem, unperturbed, HasSamePoints}
+use Rattle.cayley.specs.Cells.{Cell, IsIndependent}
 use Rattle.cayley.specs.Mixed.{IsAlive}
 use Rattle.cayley.proofs.Lines.{line_at}
 use Rattle.cayley.proofs.Lists.{each_map, each_unmap}

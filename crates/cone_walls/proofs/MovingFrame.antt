@@ -1,12 +1,12 @@
 -- the normal of a cell at all times as the frame of its wall lines
-use Rattle.std.proofs.Common.{◌≡◌, ℕ, zero, suc, List, [], ◌∷◌, length, arith, refl, sym, ap, ap₂, ◌∙◌, ◌<ℤ◌}
+use Rattle.std.proofs.Common.{◌≡◌, ℕ, List, [], ◌∷◌, length, arith, refl, sym, ap, ap₂, ◌∙◌, ◌<ℤ◌}
 use Rattle.std.proofs.lemmas.Int.{ints}
 use Rattle.std.proofs.Math.IntN.{ℤ, pos, ◌+ℤ◌, ◌*ℤ◌, *ℤ_comm}
 use Rattle.int_vectors.specs.Vectors.{IsZero, add, sub, scale, comb, at}
 use Rattle.cayley.specs.Times.{Time, time_zero}
 use Rattle.cayley.specs.Problems.{Point, Problem, point_at, unperturbed}
 use Rattle.cayley.specs.Cells.{Cell, EachPair}
-use Rattle.cayley.specs.Normals.{Normal, height, gap, IsNormal}
+use Rattle.cayley.specs.Normals.{Normal, height, gap}
 use Rattle.cayley.proofs.ScaledInverse.{at-add, at-scale}
 use Rattle.cayley.proofs.RowNormals.{at-zero}
 use Rattle.cayley.proofs.RowDependencies.{zero-at}

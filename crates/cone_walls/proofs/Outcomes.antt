@@ -1,8 +1,8 @@
 -- what the answers say of the working and of the cell
-use Rattle.std.proofs.Common.{◌≡◌, ◌↔◌, ℕ, suc, ◌+◌, ◌≤◌, List, ℤ, Result, Ok, Err, IfOk, IfErr, MatchResult, length, arith, sym, ap, subst, ◌∙◌}
+use Rattle.std.proofs.Common.{◌≡◌, ◌↔◌, suc, ◌+◌, List, ℤ, Result, Ok, Err, IfOk, IfErr, MatchResult, length, sym, ap, subst, ◌∙◌}
 use Rattle.reduced_rows.specs.declared.faults.CellFault.{CellFault}
 use Rattle.reduced_rows.specs.declared.faults.CellFault.TheVariants.{Overflow, Dependent, OutOfMemory}
-use Rattle.reduced_rows.specs.Steps.{OfLength, elimination, FitsElimination}
+use Rattle.reduced_rows.specs.Steps.{FitsElimination}
 use Rattle.reduced_rows.specs.CellRefusals.{IsEliminated, IsCellFault, OnDependent, HasAnswer, IsCellDependent, CellOverflowExactly}
 use Rattle.reduced_rows.proofs.Outcome.{reduced_means}
 use Rattle.cayley.specs.Problems.{Problem, IsProblem}
@@ -39,8 +39,15 @@ normal_is made m h =
     ∙ ap (λ (qs : List ℤ). record m { p = shares (length made) 0 (denominator made) made; q = qs }) h.moving
     ∙ ap (λ (d : ℤ). record (normal_of_rows made) { den = d }) h.over
 
-pub rest_from : (p : Problem) (cell : Cell) (made : List (List ℤ)) (m : MovingNormal) → IsNormalFrom made m → FitsNormal (length made) made → FitsWalls p cell m → FitsRest p cell made
-rest_from p cell made m h f w = (f, subst (FitsWalls p cell) (normal_is made m h) w)
+made_count : (p : Problem) (cell : Cell) (made : List (List ℤ)) → IsProblem p → IsOf p cell → IsEliminated p.dimension (edge_rows p cell) made → length made ≡ p.dimension
+made_count p cell made well of e = (reduced_means p.dimension (p.dimension + suc (suc p.dimension)) (edge_rows p cell) made (rows_count p cell well of) (rows_width p cell well of) e.1).count
+
+pub normal_fits : (p : Problem) (cell : Cell) (made : List (List ℤ)) → IsProblem p → IsOf p cell → IsEliminated p.dimension (edge_rows p cell) made → FitsRest p cell made → FitsNormal (length made) made
+normal_fits p cell made well of e r = subst (λ n. FitsNormal n made) (sym (made_count p cell made well of e)) r.0
+
+pub rest_from : (p : Problem) (cell : Cell) (made : List (List ℤ)) (m : MovingNormal) → IsProblem p → IsOf p cell → IsEliminated p.dimension (edge_rows p cell) made → IsNormalFrom made m → FitsNormal (length made) made → FitsWalls p cell m
+    → FitsRest p cell made
+rest_from p cell made m well of e h f w = (subst (λ n. FitsNormal n made) (made_count p cell made well of e) f, subst (FitsWalls p cell) (normal_is made m h) w)
 
 pub walls_from : (p : Problem) (cell : Cell) (made : List (List ℤ)) (m : MovingNormal) → IsNormalFrom made m → FitsRest p cell made → FitsWalls p cell m
 walls_from p cell made m h r = subst (FitsWalls p cell) (sym (normal_is made m h)) r.1

@@ -1,12 +1,12 @@
 -- one more line, and the lines of one more support
-use Rattle.std.proofs.Common.{◌≡◌, ◌≢◌, ◌↔◌, ℕ, zero, suc, ◌+◌, ◌-◌, ◌<◌, ◌≤◌, Bool, true, false, if◌then◌else◌, ◌==◌, List, [], ◌∷◌, ◌++◌, length, drop, get_or, drop-cons, add-one, drop_of_length-le, append_assoc, append-nil, arith, refl, sym, ap, ap₂, subst, ◌∙◌}
+use Rattle.std.proofs.Common.{◌≡◌, ◌↔◌, ℕ, zero, suc, ◌+◌, ◌-◌, ◌<◌, ◌≤◌, Bool, true, false, if◌then◌else◌, ◌==◌, List, [], ◌∷◌, ◌++◌, length, drop, get_or, drop-cons, add-one, drop_of_length-le, append_assoc, append-nil, arith, refl, sym, ap, ap₂, subst, ◌∙◌}
 use Rattle.std.specs.Prelude.{All}
 use native.Mathlib.Decide.{dec_le}
 use Rattle.reduced_rows.specs.declared.faults.FromFault.{FromFault}
 use Rattle.reduced_rows.specs.declared.faults.FromFault.TheVariants.{Overflow, OutOfMemory}
 use Rattle.reduced_rows.specs.Refusals.{IsFromFault}
 use Rattle.cayley.specs.Problems.{Point, Problem, origin, point_at}
-use Rattle.cayley.specs.Cells.{Cell, EachPair, IsOf, IsFurther}
+use Rattle.cayley.specs.Cells.{Cell, EachPair, IsOf}
 use Rattle.cayley.specs.Valid.{IsValidProblem, support_at}
 use Rattle.crossing.specs.declared.line.WallLine.{WallLine}
 use Rattle.inner_normal.specs.declared.moving.MovingNormal.{MovingNormal}

@@ -1,8 +1,8 @@
 -- the lines tell the sides of their points
-use Rattle.std.proofs.Common.{◌≡◌, ◌↔◌, inl, inr, ℕ, ◌+◌, ◌-◌, List, [], ◌∷◌, map, arith, refl, sym, ap, ap₂, subst, ◌∙◌, ◌<ℤ◌}
+use Rattle.std.proofs.Common.{◌≡◌, ◌↔◌, inl, inr, ℕ, ◌-◌, List, [], ◌∷◌, map, arith, sym, ap, subst, ◌∙◌, ◌<ℤ◌}
 use Rattle.std.proofs.lemmas.Int.{ints}
 use Rattle.std.proofs.Math.IntN.{ℤ, pos, ◌+ℤ◌, ◌*ℤ◌, neg_ℤ}
-use Rattle.int_vectors.specs.Vectors.{Each, IsZero, add, scale}
+use Rattle.int_vectors.specs.Vectors.{IsZero, scale}
 use Rattle.cayley.specs.Times.{Time, IsPositive}
 use Rattle.cayley.specs.Problems.{Point, Problem, point_at, with_rank, unperturbed}
 use Rattle.cayley.specs.Cells.{Cell}
@@ -11,9 +11,9 @@ use Rattle.cayley.specs.Normals.{Normal, gap, IsNormal}
 use Rattle.cayley.specs.Mixed.{IsAlive}
 use Rattle.cayley.proofs.Lines.{Line, line_at, AllPositive}
 use Rattle.cayley.proofs.Lists.{each_weaker}
-use Rattle.cayley.proofs.MovingNormals.{wall, walls, lined_frame}
+use Rattle.cayley.proofs.MovingNormals.{lined_frame}
 use Rattle.cayley.proofs.MovingWalls.{wall_above, wall_level, wall_below}
-use Rattle.cayley.proofs.Unperturbed.{unranked, point_unranked, support_unranked, same_unperturbed, same_well, same_of, same_independent}
+use Rattle.cayley.proofs.Unperturbed.{point_unranked, support_unranked, same_unperturbed, same_well, same_of, same_independent}
 use Rattle.crossing.specs.declared.line.WallLine.{WallLine}
 use Rattle.crossing.specs.Lines.{value_at}
 use Rattle.inner_normal.specs.declared.moving.MovingNormal.{MovingNormal}

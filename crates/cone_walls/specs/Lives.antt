@@ -1,5 +1,5 @@
 -- A cell's life, by the two ends that its lines have.
-use Rattle.std.specs.Prelude.{◌↔◌, ℕ, List, [], ◌∷◌, ℤ, neg_ℤ}
+use Rattle.std.specs.Prelude.{◌↔◌, List, [], ◌∷◌, neg_ℤ}
 use Rattle.wide_int.specs.Fractions.{Fraction}
 use Rattle.int_vectors.specs.Vectors.{add, scale}
 use Rattle.cayley.specs.Times.{Time, IsPositive}

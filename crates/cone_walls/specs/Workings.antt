@@ -31,7 +31,7 @@ FitsWalls p cell m = EachPair p.supports cell (FitsSupport m)
 
 -- what follows the elimination
 abbrev pub FitsRest : Problem → Cell → List (List ℤ) → Type 0
-FitsRest p cell made = FitsNormal (length made) made × FitsWalls p cell (normal_of_rows made)
+FitsRest p cell made = FitsNormal p.dimension made × FitsWalls p cell (normal_of_rows made)
 
 -- the elimination of the cell's rows fits, and where it doesn't end with a kernel, normal and wall lines fit too
 abbrev pub FitsWallWorking : Problem → Cell → Type 0

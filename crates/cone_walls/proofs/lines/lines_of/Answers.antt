@@ -1,5 +1,5 @@
-use Rattle.std.proofs.Common.{◌+◌, ◌<◌, ◌≤◌, length, arith, ap}
-use Rattle.cone_walls.specs.Workings.{FitsSupport, FitsWalls}
+use Rattle.std.proofs.Common.{◌≤◌, length, arith, ap}
+use Rattle.cone_walls.specs.Workings.{FitsWalls}
 use Rattle.cone_walls.proofs.Pushing.{fault_by, pair_within, support_inside, support_not, support_more, more_supports, no_supports, last_support}
 use Rattle.cone_walls.proofs.lines.lines_of.Goals as goal
 

@@ -1,7 +1,7 @@
 use Rattle.std.proofs.Common.{rules, ◌+◌}
 use Rattle.cayley.specs.Valid.{support_at}
 use Rattle.cone_walls.specs.Workings.{FitsPoint, FitsSupport}
-use Rattle.cone_walls.proofs.Pushing.{fault_by, more_lines, last_line, more_fit, no_point, all_fit}
+use Rattle.cone_walls.proofs.Pushing.{fault_by, more_lines, more_fit}
 use Rattle.cone_walls.proofs.lines.push_lines.Goals as goal
 
 pub returns-in-Err-clause-made : goal.returns-in-Err-clause-made

@@ -1,4 +1,4 @@
-use Rattle.std.proofs.Common.{◌≡◌, ◌↔◌, All}
+use Rattle.std.proofs.Common.{◌↔◌}
 use Rattle.int_vectors.specs.Vectors.{Each}
 use Rattle.cayley.specs.Problems.{Problem, unperturbed, HasSamePoints}
 use Rattle.crossing.specs.Entries.{IsEntry}
