@@ -1,19 +1,16 @@
 -- what the answers of the calls say
-use Rattle.std.proofs.Common.{◌≡◌, ◌↔◌, ℕ, suc, ◌+◌, ◌*◌, ◌≤◌, ℤ, List, [], length, refl, sym, ap, subst, subst₂, ◌∙◌, arith, Result, Ok, Err, IfErr, MatchResult}
+use Rattle.std.proofs.Common.{◌≡◌, ◌↔◌, ℕ, suc, ◌+◌, ◌*◌, ◌≤◌, ℤ, List, [], length, refl, sym, ap, subst, ◌∙◌, arith, Result, Ok, Err, IfErr, MatchResult}
 use Rattle.int_vectors.specs.Vectors.{Each}
 use Rattle.reduced_rows.specs.declared.faults.CellFault.{CellFault}
 use Rattle.reduced_rows.specs.declared.faults.CellFault.TheVariants as cell_faults
-use Rattle.reduced_rows.specs.declared.faults.ReduceFault.{ReduceFault}
 use Rattle.reduced_rows.specs.declared.faults.FromFault.{FromFault}
-use Rattle.reduced_rows.specs.declared.faults.FromFault.TheVariants as from_faults
 use Rattle.reduced_rows.specs.CellRefusals.{IsEliminated, IsCellFault, OnDependent, HasAnswer, IsCellDependent, CellOverflowExactly}
 use Rattle.reduced_rows.specs.Refusals.{IsFromFault}
-use Rattle.reduced_rows.specs.Spans.{IsKernelOf}
 use Rattle.reduced_rows.specs.Steps.{OfLength, elimination, FitsElimination}
 use Rattle.cayley.specs.Problems.{Problem, IsProblem}
 use Rattle.cayley.specs.Cells.{Cell, IsOf, IsIndependent, IsCellKernel}
 use Rattle.cayley.specs.Rows.{edge_rows}
-use Rattle.cayley.proofs.CellRows.{rows_count, rows_width, rows_independent, independent_rows, pairs_from_rows}
+use Rattle.cayley.proofs.CellRows.{rows_width, rows_independent, independent_rows, pairs_from_rows}
 use Rattle.circuit.specs.declared.circuits.Circuit.{Circuit}
 use Rattle.circuit.specs.Inverses.{Inverse, inverse_of, FitsInverse}
 use Rattle.circuit.specs.Workings.{difference, FitsCoefficients, IsCircuitFrom, FitsCircuit, FitsCircuitWorking, IsCircuitOfRows}

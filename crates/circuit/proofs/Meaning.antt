@@ -1,5 +1,5 @@
 -- what the working's coefficients are: the dependency of the cell and the further point
-use Rattle.std.proofs.Common.{◌≡◌, ℕ, zero, suc, ◌+◌, ◌*◌, ◌<◌, ◌≤◌, List, [], ◌∷◌, length, map, arith, refl, sym, ap, ap₂, subst, subst₂, ◌∙◌, ◌<ℤ◌, ◌≤ℤ◌}
+use Rattle.std.proofs.Common.{◌≡◌, ℕ, zero, suc, ◌+◌, ◌*◌, ◌<◌, ◌≤◌, List, [], ◌∷◌, length, arith, refl, sym, ap, ap₂, subst, subst₂, ◌∙◌, ◌<ℤ◌, ◌≤ℤ◌}
 use Rattle.std.proofs.lemmas.Int.{ints}
 use Rattle.std.proofs.lemmas.List.{length-map}
 use Rattle.std.proofs.Math.IntN.{ℤ, pos, neg_ℤ}
@@ -8,19 +8,18 @@ use Rattle.reduced_rows.specs.CellRefusals.{IsEliminated}
 use Rattle.reduced_rows.specs.Denominators.{lcm_from}
 use Rattle.reduced_rows.specs.Solutions.{scaled_column}
 use Rattle.reduced_rows.specs.Spans.{IsReducedOf}
-use Rattle.reduced_rows.specs.Steps.{FitsElimination, elimination}
 use Rattle.reduced_rows.proofs.Outcome.{reduced_means}
 use Rattle.cayley.specs.Problems.{Point, Problem, IsProblem, point_at, HasSamePoints}
-use Rattle.cayley.specs.Cells.{Cell, IsOf, IsIndependent}
+use Rattle.cayley.specs.Cells.{Cell, IsOf}
 use Rattle.cayley.specs.Rows.{edge_rows}
-use Rattle.cayley.specs.Dependencies.{Numbers, support_at, pair_at, IsFurtherAt, IsPositiveDependency}
-use Rattle.cayley.proofs.CellRows.{InRange, HaveLength, each_position, long_sub, rows_independent, rows_count, rows_width}
+use Rattle.cayley.specs.Dependencies.{support_at, pair_at, IsFurtherAt, IsPositiveDependency}
+use Rattle.cayley.proofs.CellRows.{InRange, each_position, long_sub, rows_independent, rows_count, rows_width}
 use Rattle.cayley.proofs.OneDependency.{pairs_from, numbers_of_rows, dependency_law}
-use Rattle.cayley.proofs.Unperturbed.{unranked, point_unranked, support_unranked, same_rows, same_dimension, same_points, same_of, same_well, same_further}
+use Rattle.cayley.proofs.Unperturbed.{point_unranked, support_unranked, same_rows, same_dimension, same_points, same_of, same_well, same_further}
 use Rattle.circuit.specs.declared.circuits.Circuit.{Circuit}
-use Rattle.circuit.specs.Circuits.{numbers_of, HasForm, IsCircuit}
+use Rattle.circuit.specs.Circuits.{numbers_of, IsCircuit}
 use Rattle.circuit.specs.Inverses.{Inverse, inverse_of, scaled_columns, IsInverseOf}
-use Rattle.circuit.specs.Workings.{difference, products, coefficients_of, coefficients_from, IsCircuitFrom}
+use Rattle.circuit.specs.Workings.{difference, products, coefficients_of, IsCircuitFrom}
 use Rattle.circuit.proofs.PairNumbers.{last-coefficients, length-coefficients, pairs-coefficients}
 use Rattle.circuit.proofs.Reading.{cell_long, pair_range}
 use Rattle.circuit.proofs.ScaledSums.{scaled_dependency}
@@ -82,7 +81,7 @@ circuit_means p cell j c well of below further made done positive circuit is =
     let bound : suc j ≤ length cell = (let k = cell_long p.supports cell InRange of in let e = well.supports in omega (arith, below, e, k)) in
     let last = ap (λ xs. (numbers_of xs).last) is.coefficients ∙ last-coefficients 0 j den ms in
     let same : record { pairs = pairs_from (scale (neg_ℤ (pos 1)) ms) j den cell; last = den } ≡ numbers_of circuit.coefficients =
-        ap₂ (λ (ms : List (ℤ × ℤ)) (g : ℤ). record { pairs = ms; last = g }) (sym (ap (λ xs. (numbers_of xs).pairs) is.coefficients ∙ pairs-coefficients j den ms cell count)) (sym last) in
+    ap₂ (λ (ms : List (ℤ × ℤ)) (g : ℤ). record { pairs = ms; last = g }) (sym (ap (λ xs. (numbers_of xs).pairs) is.coefficients ∙ pairs-coefficients j den ms cell count)) (sym last) in
     let dependency = subst (IsPositiveDependency p cell j c) same
     (numbers_of_rows p cell j c well of bound (scale (neg_ℤ (pos 1)) ms) den positive (scaled_dependency p cell well of made r d (length-difference p cell j c well of below further))) in
     let law = dependency_law p cell j c well of (rows_independent p cell well of r.independent) further in

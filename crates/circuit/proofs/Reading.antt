@@ -1,10 +1,10 @@
 -- points and pairs by their places
-use Rattle.std.proofs.Common.{◌≡◌, ℕ, zero, suc, ◌+◌, ◌-◌, ◌<◌, ◌≤◌, List, [], ◌∷◌, length, arith, refl, sym, ap, subst, ◌∙◌}
-use Rattle.std.specs.Prelude.{slice_index_or, ℤ}
+use Rattle.std.proofs.Common.{◌≡◌, ℕ, zero, suc, ◌<◌, ◌≤◌, List, [], ◌∷◌, length, arith, refl, ap}
+use Rattle.std.specs.Prelude.{slice_index_or}
 use Rattle.int_vectors.specs.Vectors.{Each}
-use Rattle.cayley.specs.Problems.{Point, Problem, origin, point_at}
-use Rattle.cayley.specs.Cells.{Cell, EachPair, IsOf}
-use Rattle.cayley.specs.Dependencies.{support_at, pair_at, IsFurtherAt}
+use Rattle.cayley.specs.Problems.{Point, Problem, point_at}
+use Rattle.cayley.specs.Cells.{Cell, EachPair}
+use Rattle.cayley.specs.Dependencies.{support_at, pair_at}
 use Rattle.cayley.specs.Valid.{IsValidProblem, IsCornerCoordinate}
 use Rattle.cayley.proofs.CellRows.{InRange, each_position}
 use Rattle.cayley.proofs.Supports.{valid_points}

@@ -19,7 +19,7 @@ use crate::circuits::Circuit;
 use crate::inverses::ScaledInverse;
 use cayley::{Cell, Point, Problem};
 use int_vectors::IntVec;
-use reduced_rows::{CellFault, FromFault, Reduced, ReduceFault, reduce};
+use reduced_rows::{CellFault, FromFault, ReduceFault, Reduced, reduce};
 use std::alloc::Global;
 
 // The point at a position of a support; both count from 1.
@@ -128,7 +128,11 @@ pub fn circuit_from(
 }
 
 // The elimination of the cell's rows.
-pub(crate) fn reduced_of(alloc: Global, problem: &Problem, cell: &Cell) -> Result<Reduced, CellFault>
+pub(crate) fn reduced_of(
+    alloc: Global,
+    problem: &Problem,
+    cell: &Cell,
+) -> Result<Reduced, CellFault>
     requires { IsOf problem.now cell.now }
     ensures { let n = problem.now.dimension in let rows = edge_rows problem.now cell.now in MatchResult result
         (IsEliminated n rows)

@@ -41,12 +41,7 @@ fn product_unchecked(c: &[i128], a: &[i128], column: &[i128]) -> i128
 }
 
 // As `product_of`, by no test of a number where a bound is known.
-pub(crate) fn product_behind(
-    c: &[i128],
-    a: &[i128],
-    column: &[i128],
-    bounded: bool,
-) -> Option<i128>
+pub(crate) fn product_behind(c: &[i128], a: &[i128], column: &[i128], bounded: bool) -> Option<i128>
     requires first { length c.now ≡ length column.now }
     requires second { length a.now ≡ length column.now }
     requires c_near { Each c.now IsCornerCoordinate }
@@ -72,12 +67,20 @@ mod tests {
         for (c, a, column, want) in [
             ([1, 1], [0, 0], [1, 0], 1),
             ([3, -4], [5, 6], [7, -2], 6),
-            ([33_000_000, 0], [-33_000_000, 0], [large, -1], 66_000_000 * large),
+            (
+                [33_000_000, 0],
+                [-33_000_000, 0],
+                [large, -1],
+                66_000_000 * large,
+            ),
         ] {
             for bounded in [true, false] {
                 assert_eq!(rt; product_behind(&c, &a, &column, bounded), Some(want));
             }
         }
-        assert_eq!(rt; product_behind(&[2, 0], &[0, 0], &[1 << 126, 0], false), None);
+        assert_eq!(rt;
+            product_behind(&[2, 0], &[0, 0], &[1 << 126, 0], false),
+            None
+        );
     }
 }

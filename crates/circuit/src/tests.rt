@@ -80,7 +80,10 @@ fn a_circuit_of_two_squares(rt: HostRuntime) -> Result<(), Fail> {
     let cell = cell_of(rt.alloc(), &[(5, 6), (5, 7)])?;
     assert!(rt; is_further(&problem, &cell, 2, 4));
     let circuit = circuit_of(rt.alloc(), &problem, &cell, 2, 4)?;
-    assert_eq!(rt; circuit.coefficients.as_slice(), [1, -1, -1, -1, 2].as_slice());
+    assert_eq!(rt;
+        circuit.coefficients.as_slice(),
+        [1, -1, -1, -1, 2].as_slice()
+    );
     assert_eq!(rt; (circuit.scale, circuit.support), (2, 2));
     assert_eq!(rt; circuit.signs(), [Sign::Minus, Sign::Minus, Sign::Plus]);
     Ok(())
@@ -91,10 +94,21 @@ fn the_same_from_reduced_rows(rt: HostRuntime) -> Result<(), Fail> {
     let problem = squares(rt.alloc())?;
     let cell = cell_of(rt.alloc(), &[(5, 6), (5, 7)])?;
     assert!(rt; is_further(&problem, &cell, 2, 4));
+    assert!(rt; problem.dim() == 2);
     let reduced = reduced_of(rt.alloc(), &problem, &cell)?;
     let circuit = circuit_from(rt.alloc(), &problem, &cell, &reduced, 2, 4)?;
-    assert_eq!(rt; circuit.coefficients.as_slice(), [1, -1, -1, -1, 2].as_slice());
+    assert_eq!(rt;
+        circuit.coefficients.as_slice(),
+        [1, -1, -1, -1, 2].as_slice()
+    );
     assert_eq!(rt; (circuit.scale, circuit.support), (2, 2));
+    let inverse = ScaledInverse::of(rt.alloc(), &reduced)?;
+    let shared = circuit_with(rt.alloc(), &problem, &cell, &inverse, 2, 4)?;
+    assert_eq!(rt;
+        shared.coefficients.as_slice(),
+        [1, -1, -1, -1, 2].as_slice()
+    );
+    assert_eq!(rt; (shared.scale, shared.support), (2, 2));
     Ok(())
 }
 

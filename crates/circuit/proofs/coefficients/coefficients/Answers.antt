@@ -1,6 +1,5 @@
-use Rattle.std.proofs.Common.{rules, ◌≡◌, ◌∙◌, ◌^◌, pos, sym, ap, subst, length, FitsSigned, to_z-of_z, arith, List, ℤ}
+use Rattle.std.proofs.Common.{◌≡◌, ◌∙◌, ◌^◌, pos, sym, ap, subst, length, FitsSigned, to_z-of_z, arith, List, ℤ}
 use Rattle.std.specs.Int.{w128}
-use Rattle.std.specs.Prelude.{slice_index_or}
 use Rattle.int_vectors.specs.Bounds.{SumBelow}
 use Rattle.int_vectors.specs.Vectors.{sub}
 use Rattle.cayley.proofs.Lists.{all_each, same_read}
@@ -59,8 +58,7 @@ returns c =
     let inv = simp to_z-of_z at c.loop-i.invariant in
     let all = coefficients_from 0 c.args.place c.args.den (products v columns) in
     let f = fits_to c.args.place c.args.den v columns c.requires.place (fits_end c.args.place c.args.den v columns c.loop-i.i (omega arith) inv.fits) in
-    let push = simp to_z-of_z at c.in_default-push.ensures.items in
-    (
+    let push = simp to_z-of_z at c.in_default-push.ensures.items in (
       f,
       items_end c.args.place c.args.den v columns c.loop-i.i c.loop-i.made.items c.push.new.self.items all (omega arith) inv.items push,
       all_end c.args.den c.loop-i.made.items c.push.new.self.items inv.all c.requires.fits push,

@@ -1,4 +1,4 @@
-use Rattle.std.proofs.Common.{rules, ◌≡◌, ◌+◌, ◌*◌, ◌<◌, ◌∙◌, sym, ap, subst, length, unsigned_abs, FitsSigned, to_z-of_z, arith}
+use Rattle.std.proofs.Common.{◌+◌, length, unsigned_abs, FitsSigned, to_z-of_z, arith}
 use Rattle.std.specs.Int.{w128}
 use Rattle.std.proofs.lemmas.Result.{err_from_is_err_and}
 use Rattle.reduced_rows.specs.Denominators.{FitsShares}

@@ -1,4 +1,4 @@
-use Rattle.std.proofs.Common.{◌≡◌, ◌+◌, ◌≤◌, length, unsigned_abs}
+use Rattle.std.proofs.Common.{◌≡◌, ◌+◌, length, unsigned_abs}
 use Rattle.circuit.specs.Inverses.{scaled_columns, FitsColumns}
 use Rattle.circuit.proofs.inverses.columns_of.Given as goal
 

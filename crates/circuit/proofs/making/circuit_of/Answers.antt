@@ -1,5 +1,5 @@
 use Rattle.std.proofs.Common.{◌-◌}
-use Rattle.circuit.proofs.Answered.{overflow_answer, dependent_answer, kernel_answer}
+use Rattle.circuit.proofs.Answered.{dependent_answer, kernel_answer}
 use Rattle.circuit.proofs.making.circuit_of.Goals as goal
 
 pub returns-clause-dependent : goal.returns-clause-dependent

@@ -1,4 +1,4 @@
-use Rattle.std.proofs.Common.{rules, ◌≡◌, ◌-◌, ◌<◌, ◌≤◌, sym, ap, ap₂, subst, ◌∙◌, length, arith, List, ℕ, ℤ}
+use Rattle.std.proofs.Common.{◌≡◌, ◌-◌, sym, ap, ap₂, subst, ◌∙◌, length, arith, List, ℕ, ℤ}
 use Rattle.int_vectors.specs.Vectors.{Each, sub}
 use Rattle.cayley.specs.Valid.{IsCornerCoordinate}
 use Rattle.std.specs.Prelude.{MatchResult}
@@ -35,5 +35,5 @@ returns-clause-value c =
     let j = c.args.support - 1 in
     let s = support_at c.args.problem.now.supports (c.args.support - 1) in
     let v : sub c.as_slice.result.now c.as_slice-2.result.now ≡ difference c.args.problem.now c.args.cell.now (c.args.support - 1) c.args.position =
-        ap₂ sub (c.as_slice.ensures.value ∙ c.point_of-c.ensures.same) (c.as_slice-2.ensures.value ∙ c.point_of-a.ensures.same ∙ ap (λ a. (point_at s a).coordinates) c.first_of.ensures.same) in
+    ap₂ sub (c.as_slice.ensures.value ∙ c.point_of-c.ensures.same) (c.as_slice-2.ensures.value ∙ c.point_of-a.ensures.same ∙ ap (λ a. (point_at s a).coordinates) c.first_of.ensures.same) in
     subst (λ (v : List ℤ). MatchResult c.coefficients.result (λ made. FitsCoefficients j c.args.inverse.now v × (made ≡ coefficients_of j c.args.inverse.now v)) (IsFromFault (FitsCoefficients j c.args.inverse.now v))) v c.coefficients.ensures

@@ -1,4 +1,4 @@
-use Rattle.std.proofs.Common.{rules, ◌≡◌, ◌-◌, ◌<◌, ◌≤◌, sym, ap, subst, ◌∙◌, length, arith, List, ℕ}
+use Rattle.std.proofs.Common.{◌≡◌, ◌-◌, ◌<◌, ◌≤◌, sym, ap, subst, ◌∙◌, length, arith, List, ℕ}
 use Rattle.std.specs.Prelude.{slice_index_or}
 use Rattle.cayley.specs.Dependencies.{support_at, pair_at}
 use Rattle.cayley.proofs.CellRows.{InRange}

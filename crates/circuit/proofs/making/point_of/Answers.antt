@@ -1,8 +1,7 @@
-use Rattle.std.proofs.Common.{rules, ◌≡◌, ◌-◌, ◌<◌, ◌≤◌, sym, ap, subst, ◌∙◌, length, arith, List, ℤ}
+use Rattle.std.proofs.Common.{◌-◌, ◌≤◌, sym, ap, subst, ◌∙◌, length, arith, List, ℤ}
 use Rattle.int_vectors.specs.Vectors.{Each}
 use Rattle.cayley.specs.Problems.{Point, point_at}
 use Rattle.cayley.specs.Valid.{IsCornerCoordinate}
-use Rattle.cayley.specs.Dependencies.{support_at}
 use Rattle.circuit.proofs.Reading.{support_read, near_at}
 use Rattle.circuit.proofs.making.point_of.Goals as goal
 

@@ -1,7 +1,7 @@
 use Rattle.std.proofs.Common.{◌≡◌, Err, ◌≤◌, ℕ, List, length, sym, ap, subst, subst₂, ◌∙◌, ℤ}
 use Rattle.reduced_rows.specs.Spans.{IsKernelOf}
 use Rattle.reduced_rows.specs.Steps.{OfLength, elimination, FitsElimination}
-use Rattle.reduced_rows.specs.CellRefusals.{IsEliminated, IsCellFault}
+use Rattle.reduced_rows.specs.CellRefusals.{IsEliminated}
 use Rattle.reduced_rows.specs.Refusals.{IsFault, HasKernel}
 use Rattle.cayley.specs.Rows.{edge_rows}
 use Rattle.cayley.proofs.CellRows.{rows_count}

@@ -1,8 +1,7 @@
-use Rattle.std.proofs.Common.{rules, ◌≡◌, sym, subst, FitsSigned, to_z-of_z, arith}
+use Rattle.std.proofs.Common.{rules, sym, subst, FitsSigned, to_z-of_z, arith}
 use Rattle.std.specs.Int.{w128}
-use Rattle.std.specs.Prelude.{IsTrue}
 use Rattle.wide_int.specs.Whole.{FitsWhole}
-use Rattle.int_vectors.specs.Vectors.{sub, dot}
+use Rattle.int_vectors.specs.Vectors.{sub}
 use Rattle.circuit.proofs.Bounded.{within_sub, bounded_fits}
 use Rattle.circuit.proofs.CoefficientSteps.{dot_fits}
 use Rattle.circuit.proofs.products.product_behind.Goals as goal

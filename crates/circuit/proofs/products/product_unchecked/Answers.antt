@@ -1,4 +1,4 @@
-use Rattle.std.proofs.Common.{rules, ◌<◌, ◌^◌, ◌+ℤ◌, ◌-ℤ◌, ◌*ℤ◌, pos, get_or, length, refl, ap, ◌∙◌, FitsSigned, to_z, to_z-of_z, arith}
+use Rattle.std.proofs.Common.{rules, ◌<◌, ◌+ℤ◌, ◌-ℤ◌, ◌*ℤ◌, pos, get_or, length, refl, FitsSigned, to_z, to_z-of_z, arith}
 use Rattle.std.specs.Int.{w128}
 use Rattle.std.proofs.lemmas.Int.{fits_signed_from_abs}
 use Rattle.int_vectors.specs.Vectors.{sub}

@@ -1,4 +1,4 @@
-use Rattle.std.proofs.Common.{rules, ◌≡◌, ◌∷◌, [], ◌+◌, ◌*◌, ◌-◌, ◌<◌, ◌∙◌, sym, ap, ap₂, length, FitsSigned, to_z-of_z, arith, ℤ}
+use Rattle.std.proofs.Common.{rules, ◌∷◌, [], ◌+◌, ◌*◌, ◌-◌, ◌<◌, ◌∙◌, sym, ap, ap₂, length, FitsSigned, to_z-of_z, arith}
 use Rattle.std.specs.Int.{w128}
 use Rattle.cayley.specs.declared.found.Sign.{Sign}
 use Rattle.cayley.specs.declared.found.Sign.TheVariants.{Plus}
