@@ -1,7 +1,5 @@
-ghost use Rattle.std.specs.Prelude.{◌≡◌, ◌↔◌, ◌-◌, ◌≤◌, ◌<◌, ℕ, pos, ◌<ℤ◌, MatchResult, IfOk, IfErr, length};
-ghost use Rattle.wide_int.specs.Whole.{FitsWhole};
-ghost use Rattle.int_vectors.specs.Fits.{AllFit};
-ghost use Rattle.int_vectors.specs.Vectors.{Each, sub};
+ghost use Rattle.std.specs.Prelude.{◌≡◌, ◌↔◌, ◌-◌, ◌≤◌, MatchResult, IfOk, IfErr, length};
+ghost use Rattle.int_vectors.specs.Vectors.{Each};
 ghost use Rattle.reduced_rows.specs.CellRefusals.{IsEliminated, IsCellFault, OnDependent, HasAnswer, IsCellDependent, CellOverflowExactly};
 ghost use Rattle.reduced_rows.specs.Refusals.{IsFromFault};
 ghost use Rattle.reduced_rows.specs.Steps.{FitsElimination};
