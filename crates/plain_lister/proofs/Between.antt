@@ -1,10 +1,13 @@
 -- sums of the products of a difference of vectors, one place at a time
-use Rattle.std.proofs.Common.{◌≡◌, ◌↔◌, ℕ, zero, suc, ◌+◌, ◌<◌, ◌≤◌, ℤ, pos, ◌+ℤ◌, ◌-ℤ◌, ◌*ℤ◌, List, [], ◌∷◌, length, get_or, drop, arith, sym, ap, subst, ◌∙◌}
+use Rattle.std.proofs.Common.{◌≡◌, ◌↔◌, ℕ, zero, suc, ◌+◌, ◌*◌, ◌^◌, ◌<◌, ◌≤◌, unsigned_abs, ℤ, pos, ◌+ℤ◌, ◌-ℤ◌, ◌*ℤ◌, List, [], ◌∷◌, length, get_or, drop, arith, sym, ap, subst, ◌∙◌}
 use Rattle.std.proofs.lemmas.Int.{ints}
 use Rattle.wide_int.specs.Whole.{FitsWhole}
 use Rattle.int_vectors.specs.Vectors.{Each, dot, sub}
 use Rattle.int_vectors.specs.Fits.{FitsDot}
 use Rattle.int_vectors.proofs.DotSteps as steps
+use Rattle.int_vectors.specs.Bounds.{size, Room}
+use Rattle.int_vectors.proofs.BoundSums.{abs_sub, room_at, room_fits}
+use Rattle.cayley.specs.Valid.{IsCoordinate}
 use Rattle.cayley.proofs.CellRows.{long_sub}
 
 pub each_at : (P : ℤ → Type 0) (xs : List ℤ) (i : ℕ) → i < length xs → Each xs P → P (get_or xs i (pos 0))
@@ -44,3 +47,22 @@ module _ (start t : ℤ) (a c v : List ℤ) (i : ℕ) (la : length a ≡ length 
 pub at_end : (start t : ℤ) (a c v : List ℤ) (i : ℕ) → length a ≡ length v → length c ≡ length v → length v ≤ i → t +ℤ dot (drop i (sub c a)) (drop i v) ≡ start +ℤ dot (sub c a) v
     → (FitsDot t (drop i (sub c a)) (drop i v) → FitsDot start (sub c a) v) → FitsWhole t → FitsDot start (sub c a) v × (t ≡ start +ℤ dot (sub c a) v)
 at_end start t a c v i la lc le e f w = let l = long_sub (length v) c a lc la in steps.at_end start t (sub c a) v i (omega (arith, le, l)) le e f w
+
+-- a place of the sum under a bound
+module _ (t : ℤ) (a c v : List ℤ) (i : ℕ) (la : length a ≡ length v) (lc : length c ≡ length v) (lt : i < length v) (r : Room (2 ^ 127) t (drop i (sub c a)) (drop i v)) where
+  pub room_between : (unsigned_abs ((get_or c i (pos 0) -ℤ get_or a i (pos 0)) *ℤ get_or v i (pos 0)) < 2 ^ 127) × (unsigned_abs (t +ℤ (get_or c i (pos 0) -ℤ get_or a i (pos 0)) *ℤ get_or v i (pos 0)) < 2 ^ 127)
+      × Room (2 ^ 127) (t +ℤ (get_or c i (pos 0) -ℤ get_or a i (pos 0)) *ℤ get_or v i (pos 0)) (drop (i + 1) (sub c a)) (drop (i + 1) v)
+  room_between =
+      let e = long_sub (length v) c a lc la in
+      subst (λ z. (unsigned_abs z < 2 ^ 127) × (unsigned_abs (t +ℤ z) < 2 ^ 127) × Room (2 ^ 127) (t +ℤ z) (drop (i + 1) (sub c a)) (drop (i + 1) v)) (product_is t t a c v i la lc lt)
+      (room_at (2 ^ 127) t (sub c a) v i (omega (arith, lt, e)) lt r)
+
+pub small_between : (x y : ℤ) → IsCoordinate x → IsCoordinate y → unsigned_abs (x -ℤ y) < 2 ^ 127
+small_between x y p q = let s = abs_sub x y in omega (arith, s, p, q)
+
+pub room_end : (start t : ℤ) (a c v : List ℤ) (i : ℕ) → length a ≡ length v → length c ≡ length v → length v ≤ i → t +ℤ dot (drop i (sub c a)) (drop i v) ≡ start +ℤ dot (sub c a) v
+    → Room (2 ^ 127) start (sub c a) v → Room (2 ^ 127) t (drop i (sub c a)) (drop i v) → t ≡ start +ℤ dot (sub c a) v
+room_end start t a c v i la lc le e r s = (at_end start t a c v i la lc le e (λ h. room_fits start (sub c a) v r) (below (unsigned_abs t) (size (drop i (sub c a)) * s.0) s.2)).1
+  where
+    below : (x y : ℕ) → x + y < 2 ^ 127 → x < 2 ^ 127
+    below x y h = omega (arith, h)

@@ -8,6 +8,7 @@ pub mod Picking
 pub mod Listed
 pub mod Shown
 pub mod Kept
+pub mod Small
 pub mod Between
 pub mod Plain
 pub mod Rising

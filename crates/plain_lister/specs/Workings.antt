@@ -1,7 +1,8 @@
 -- The working of a cell: elimination, normal and wall lines, over unbounded numbers. Circuits are no part of it.
-use Rattle.std.specs.Prelude.{◌≡◌, ℕ, suc, List, Ok, ℤ, pos, ◌+ℤ◌, ◌*ℤ◌, ◌-ℤ◌, ◌<ℤ◌}
+use Rattle.std.specs.Prelude.{◌≡◌, ◌<◌, ◌^◌, unsigned_abs, ℕ, suc, List, Ok, ℤ, pos, ◌+ℤ◌, ◌*ℤ◌, ◌-ℤ◌, ◌<ℤ◌}
 use Rattle.wide_int.specs.Whole.{FitsWhole}
 use Rattle.int_vectors.specs.Vectors.{sub, dot}
+use Rattle.int_vectors.specs.Bounds.{Within}
 use Rattle.int_vectors.specs.Fits.{FitsDot}
 use Rattle.reduced_rows.specs.Denominators.{lcm_from, FitsLcm, shares, FitsShares}
 use Rattle.reduced_rows.specs.Steps.{elimination, FitsElimination}
@@ -51,6 +52,10 @@ FitsWorking p cell = FitsElimination p.dimension (edge_rows p cell)
 -- the numbers of the sum for point c against point a fit
 abbrev pub FitsRise : ℤ → List ℤ → Point → Point → Type 0
 FitsRise den ps a c = FitsSum (den *ℤ (c.base -ℤ a.base)) (sub c.coordinates a.coordinates) ps
+
+-- so small that the numbers of each further point's sum fit
+abbrev pub AreSmall : ℤ → List ℤ → Type 0
+AreSmall den ps = (unsigned_abs den < 2 ^ 90) × ((w : ℕ) × (w < 2 ^ 90) × Within w ps)
 
 -- of the point at a position of a support, if it is a further point
 abbrev pub FitsFurther : ℤ → List ℤ → List Point → ℕ → ℕ → ℕ → Type 0

@@ -3,9 +3,9 @@ ghost use Rattle.cayley.specs.Cells.{EachPair, IsFurther, IsOf};
 ghost use Rattle.cayley.specs.Problems.{point_at};
 ghost use Rattle.cayley.specs.Valid.{IsValidProblem, support_at};
 ghost use Rattle.plain_lister.specs.Lists.{HasNoCorners};
-ghost use Rattle.plain_lister.specs.Workings.{FitsRise, FitsFurther, FurtherRises, FitsSupport, SupportRises};
+ghost use Rattle.plain_lister.specs.Workings.{FitsRise, FitsFurther, FurtherRises, FitsSupport, SupportRises, AreSmall};
 
-use crate::sums::rise;
+use crate::sums::{are_small, rise};
 use cayley::{Cell, Problem};
 use int_vectors::IntVec;
 
@@ -17,6 +17,7 @@ fn point_rises(
     position: u32,
     den: i128,
     v: &IntVec,
+    small: bool,
 ) -> Option<bool>
     requires alone { HasNoCorners problem.now }
     requires least { 1 ≤ i }
@@ -24,6 +25,7 @@ fn point_rises(
     requires pair { (1 ≤ pair.0) × (pair.0 ≤ length (support_at problem.now i)) }
     requires position { (1 ≤ position) × (position ≤ length (support_at problem.now i)) }
     requires length { length v.now ≡ problem.now.dimension }
+    requires small { IsTrue small → AreSmall den v.now }
     ensures { MatchOption result
         (¬ (FitsFurther den v.now (support_at problem.now i) pair.0 pair.1 position))
         (λ up. FitsFurther den v.now (support_at problem.now i) pair.0 pair.1 position
@@ -32,17 +34,31 @@ fn point_rises(
     if position == pair.0 || position == pair.1 {
         return Some(true);
     }
-    let sum = rise(den, v, problem.point(i, pair.0), problem.point(i, position))?;
+    let sum = rise(
+        den,
+        v,
+        small,
+        problem.point(i, pair.0),
+        problem.point(i, position),
+    )?;
     Some(0 < sum)
 }
 
 // Whether every further point of support i is above its pair.
-fn support_rises(problem: &Problem, i: u32, pair: (u32, u32), den: i128, v: &IntVec) -> Option<bool>
+fn support_rises(
+    problem: &Problem,
+    i: u32,
+    pair: (u32, u32),
+    den: i128,
+    v: &IntVec,
+    small: bool,
+) -> Option<bool>
     requires alone { HasNoCorners problem.now }
     requires least { 1 ≤ i }
     requires greatest { i ≤ problem.now.dimension }
     requires pair { (1 ≤ pair.0) × (pair.0 ≤ length (support_at problem.now i)) }
     requires length { length v.now ≡ problem.now.dimension }
+    requires small { IsTrue small → AreSmall den v.now }
     ensures { MatchOption result
         (¬ (FitsSupport den v.now (support_at problem.now i) pair.0 pair.1))
         (λ up. FitsSupport den v.now (support_at problem.now i) pair.0 pair.1
@@ -50,7 +66,7 @@ fn support_rises(problem: &Problem, i: u32, pair: (u32, u32), den: i128, v: &Int
 {
     let mut up = true;
     for index in 0..problem.count(i) {
-        let rises = point_rises(problem, i, pair, index + 1, den, v)?;
+        let rises = point_rises(problem, i, pair, index + 1, den, v, small)?;
         up = up && rises;
     }
     Some(up)
@@ -67,9 +83,10 @@ pub(crate) fn all_rise(problem: &Problem, cell: &Cell, den: i128, v: &IntVec) ->
         (λ up. EachPair problem.now.supports cell.now (FitsSupport den v.now)
         × (IsTrue up ↔ EachPair problem.now.supports cell.now (SupportRises den v.now))) }
 {
+    let small = are_small(den, v);
     let mut up = true;
     for (i, pair) in cell.pairs().iter().enumerate() {
-        let rises = support_rises(problem, i as u32 + 1, *pair, den, v)?;
+        let rises = support_rises(problem, i as u32 + 1, *pair, den, v, small)?;
         up = up && rises;
     }
     Some(up)

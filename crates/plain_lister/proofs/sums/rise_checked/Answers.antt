@@ -1,7 +1,7 @@
 use Rattle.std.proofs.Common.{rules, FitsSigned, to_z-of_z}
 use Rattle.std.specs.Int.{w64, w128}
 use Rattle.plain_lister.proofs.Rising.{started}
-use Rattle.plain_lister.proofs.sums.rise.Goals as goal
+use Rattle.plain_lister.proofs.sums.rise_checked.Goals as goal
 
 pub returns : goal.returns
 returns c =
