@@ -143,8 +143,8 @@ of_further_points m p cell of = (
   walls_ordered m 1 p.supports cell,
   (λ j c. (
     (λ h. each_has (λ j c. (1 ≤ j) × IsFurtherAt p cell (j - 1) c) (wall_lines m 1 p.supports cell) j c
-    (all_lines m (λ l. (1 ≤ l.support) × IsFurtherAt p cell (l.support - 1) l.position) 1 p.supports cell
-    (λ j k c e f. (omega (arith, e), (let w : j ≡ k - 1 = omega (arith, e) in subst (λ z. IsFurtherAt p cell z c) w f)))) h),
+        (all_lines m (λ l. (1 ≤ l.support) × IsFurtherAt p cell (l.support - 1) l.position) 1 p.supports cell
+        (λ j k c e f. (omega (arith, e), (let w : j ≡ k - 1 = omega (arith, e) in subst (λ z. IsFurtherAt p cell z c) w f)))) h),
     (λ h.
         let l = h.0 in
         lines_all m (λ l. HasLine (wall_lines m 1 p.supports cell) l.support l.position) _ 1 p.supports cell of (has_each (wall_lines m 1 p.supports cell)) (j - 1) j c (omega (arith, l)) h.1),
@@ -158,6 +158,6 @@ have_numbers m p cell =
     (λ j k c e f.
     let w : j ≡ k - 1 = omega (arith, e) in
     subst (λ z.
-        (alpha m (point_at (support_at p.supports j) (pair_at cell j).0) (point_at (support_at p.supports j) c) ≡ alpha m (point_at (support_at p.supports z) (pair_at cell z).0) (point_at (support_at p.supports z) c))
-        × (beta m (point_at (support_at p.supports j) (pair_at cell j).0) (point_at (support_at p.supports j) c) ≡ beta m (point_at (support_at p.supports z) (pair_at cell z).0) (point_at (support_at p.supports z) c)))
+    (alpha m (point_at (support_at p.supports j) (pair_at cell j).0) (point_at (support_at p.supports j) c) ≡ alpha m (point_at (support_at p.supports z) (pair_at cell z).0) (point_at (support_at p.supports z) c))
+    × (beta m (point_at (support_at p.supports j) (pair_at cell j).0) (point_at (support_at p.supports j) c) ≡ beta m (point_at (support_at p.supports z) (pair_at cell z).0) (point_at (support_at p.supports z) c)))
     w (refl, refl))

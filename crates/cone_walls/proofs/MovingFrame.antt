@@ -77,8 +77,8 @@ pub moving_frame : (p : Problem) (cell : Cell) (m : MovingNormal) (n : IsMovingN
 moving_frame p cell m n =
     let v = n.whole time_zero in
     let w = n.whole time_one in (
-  n.long.0,
-  two_pairs (λ s a b. IsZero (gap time_zero v.0 (point_at s a) (point_at s b))) (λ s a b. IsZero (gap time_one w.0 (point_at s a) (point_at s b))) _
-      (λ s a b g h. pair_flat m n.positive (long_normal p cell m n) v.0 w.0 v.1 w.1 (point_at s a) (point_at s b) g h)
-      (unperturbed p).supports cell v.2.1 w.2.1,
-)
+      n.long.0,
+      two_pairs (λ s a b. IsZero (gap time_zero v.0 (point_at s a) (point_at s b))) (λ s a b. IsZero (gap time_one w.0 (point_at s a) (point_at s b))) _
+          (λ s a b g h. pair_flat m n.positive (long_normal p cell m n) v.0 w.0 v.1 w.1 (point_at s a) (point_at s b) g h)
+          (unperturbed p).supports cell v.2.1 w.2.1,
+    )

@@ -151,8 +151,8 @@ fn lines_of_an_inner_cell(rt: HostRuntime) -> Result<(), Fail> {
         assert_eq!(rt; seen.walls.reduced.count(), 2);
         let all = numbers(rt.alloc(), &seen.walls.lines)?;
         let want = [
-            1, 2, 17, -1, 1, 3, 29, 3, 1, 4, 172, 2, 1, 5, -6, 2, 1, 7, 184, 8, 2, 1, 10, -2, 2,
-            2, 83, -3, 2, 3, 13, 1, 2, 6, 206, -2, 2, 7, -10, 6,
+            1, 2, 17, -1, 1, 3, 29, 3, 1, 4, 172, 2, 1, 5, -6, 2, 1, 7, 184, 8, 2, 1, 10, -2, 2, 2,
+            83, -3, 2, 3, 13, 1, 2, 6, 206, -2, 2, 7, -10, 6,
         ];
         assert_eq!(rt; all.as_slice(), want.as_slice());
     } else {
@@ -167,8 +167,20 @@ fn ends_of_an_inner_cell(rt: HostRuntime) -> Result<(), Fail> {
     if let Some(Ok(seen)) = &answer {
         let first = Frac::lowest(3, 1).unwrap();
         let last = Frac::lowest(5, 1).unwrap();
-        assert_eq!(rt; seen.entry, Entry::At { time: first, which: 4 });
-        assert_eq!(rt; seen.exit, Exit::At { time: last, which: 6 });
+        assert_eq!(rt;
+            seen.entry,
+            Entry::At {
+                time: first,
+                which: 4
+            }
+        );
+        assert_eq!(rt;
+            seen.exit,
+            Exit::At {
+                time: last,
+                which: 6
+            }
+        );
     } else {
         assert!(rt; false, "the cell has lines");
     }
