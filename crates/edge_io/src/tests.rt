@@ -44,7 +44,7 @@ fn a_failed_read_leaves_the_bytes(rt: HostRuntime) -> Result<(), Fail> {
     let failing = [1].to_vec(rt.alloc())?;
     let mut source = MemorySource::new(bytes, 100, failing);
     let first = read_all(rt.alloc(), &mut source);
-    assert!(rt; matches!(first, Err(ReadStop::Fault)));
+    assert_eq!(rt; first.err(), Some(ReadStop::Fault));
     let read = read_all(rt.alloc(), &mut source)?;
     assert_eq!(rt; read.as_slice(), TEXT);
     Ok(())
