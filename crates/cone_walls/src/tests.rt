@@ -10,7 +10,7 @@ use std::alloc::Global;
 use std::marker::Brand;
 use std::sync::ledger::{Blank, Ledger};
 use std::test::Fail;
-use wide_int::Frac;
+use wide_int::{Frac, OutOfMemory};
 
 // Two squares, and the corners of their path.
 const FIRST: [(&[i128], i64, u8); 7] = [
@@ -104,11 +104,14 @@ fn seen_at(alloc: Global, pairs: &[(u32, u32)]) -> Result<Option<Result<View, Ce
     let Some(cell) = Cell::new(alloc, pairs) else {
         return Ok(None);
     };
-    if problem.contains(&cell) {
-        Ok(Some(seen::<Brand>(alloc, &problem, &cell, Blank::new(1))))
-    } else {
-        Ok(None)
+    if !problem.contains(&cell) {
+        return Ok(None);
     }
+    let answer = seen::<Brand>(alloc, &problem, &cell, Blank::new(1));
+    if let Err(CellFault::OutOfMemory) = &answer {
+        return Err(OutOfMemory.into());
+    }
+    Ok(Some(answer))
 }
 
 // The numbers of the lines one after the other.
