@@ -4,7 +4,7 @@ ghost use Rattle.cayley.specs.Dependencies.{IsFurtherAt};
 
 use crate::making::reduced_of;
 use crate::{CellFault, ScaledInverse, Sign, circuit_from, circuit_of, circuit_with};
-use cayley::{Cell, Point, Problem, Support};
+use cayley::{Cell, FilePoint, LiftFile, Point, Problem, Support};
 use int_vectors::IntVec;
 use std::alloc::Global;
 use std::test::Fail;
@@ -52,6 +52,51 @@ fn squares(alloc: Global) -> Result<Problem, Fail> {
     Ok(Problem::new(alloc, 2, supports)?)
 }
 
+// The file of the two squares.
+fn squares_file(alloc: Global) -> Result<LiftFile, Fail> {
+    let mut supports = Vec::new(alloc);
+    for points in [&FIRST, &SECOND] {
+        let mut made = Vec::new(alloc);
+        for (coords, height, _) in &points[..4] {
+            let coords = IntVec::from_slice(alloc, coords)?;
+            made.push(FilePoint {
+                coords,
+                height: *height,
+            })?;
+        }
+        supports.push(made)?;
+    }
+    Ok(LiftFile::new(alloc, 2, supports, None)?)
+}
+
+// The problem of their points without corners.
+fn squares_alone(alloc: Global) -> Result<Problem, Fail> {
+    let mut supports = Vec::new(alloc);
+    for points in [&FIRST, &SECOND] {
+        supports.push(support(alloc, &points[..4])?)?;
+    }
+    Ok(Problem::new(alloc, 2, supports)?)
+}
+
+// Whether a support of both problems reads the same.
+fn same_support(p: &Problem, q: &Problem, i: u32) -> bool
+    requires least { 1 ≤ i }
+    requires in_p { i ≤ p.now.dimension }
+    requires in_q { i ≤ q.now.dimension }
+{
+    if p.count(i) != q.count(i) || p.file_count(i) != q.file_count(i) {
+        return false;
+    }
+    for k in 0..p.count(i) {
+        let x = p.point(i, k + 1);
+        let y = q.point(i, k + 1);
+        if x.coords.as_slice() != y.coords.as_slice() || x.base != y.base || x.speed != y.speed {
+            return false;
+        }
+    }
+    true
+}
+
 fn cell_of(alloc: Global, pairs: &[(u32, u32)]) -> Result<Cell, Fail> {
     match Cell::new(alloc, pairs) {
         Some(cell) => Ok(cell),
@@ -72,6 +117,17 @@ fn is_further(problem: &Problem, cell: &Cell, support: u32, position: u32) -> bo
         return false;
     }
     position != pair.1
+}
+
+#[test]
+fn points_without_corners_are_the_plain_problem(rt: HostRuntime) -> Result<(), Fail> {
+    let given = squares_alone(rt.alloc())?;
+    let file = squares_file(rt.alloc())?;
+    let plain = Problem::plain(rt.alloc(), &file)?;
+    assert!(rt; given.dim() == 2 && plain.dim() == 2);
+    assert!(rt; plain.count(1) == 4 && plain.count(2) == 4);
+    assert!(rt; same_support(&given, &plain, 1) && same_support(&given, &plain, 2));
+    Ok(())
 }
 
 #[test]
