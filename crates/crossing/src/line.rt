@@ -15,7 +15,7 @@ pub struct WallLine {
 }
 
 // The time at which a line that isn't level is zero.
-pub fn zero_of(line: &WallLine) -> Frac
+pub(crate) fn zero_of(line: &WallLine) -> Frac
     requires fits { FitsLine line.now }
     requires slope { line.now.beta ≢ pos 0 }
     ensures zero { IsZeroAt line.now result }
