@@ -10,7 +10,7 @@ use Rattle.cayley.specs.Parents.{IsParent}
 use Rattle.cayley.specs.Dependencies.{pair_at, number_at}
 use Rattle.cayley.specs.Flips.{IsLeastPredecessor}
 use Rattle.cayley.specs.FlipRules.{PastWhere}
-use Rattle.cayley.proofs.FlipChildren.{children_law}
+use Rattle.cayley.proofs.Flipping.FlipChildren.{children_law}
 use Rattle.flip_rule.specs.Signs.{HaveSigns}
 use Rattle.flip_rule.specs.Rules.{IsNewPoint, IsSuccessor}
 use Rattle.flip_rule.specs.Walls.{IsWall}

@@ -5,7 +5,7 @@ use Rattle.int_vectors.specs.Vectors.{Independent}
 use Rattle.cayley.specs.Problems.{Problem, IsProblem}
 use Rattle.cayley.specs.Cells.{Cell, IsOf, IsIndependent}
 use Rattle.cayley.specs.Rows.{edge_rows}
-use Rattle.cayley.proofs.CellRows.{pairs_from_rows, rows_independent, rows_width}
+use Rattle.cayley.proofs.OneCell.CellRows.{pairs_from_rows, rows_independent, rows_width}
 use Rattle.reduced_rows.specs.Spans.{IsReducedOf, IsKernelOf}
 use Rattle.reduced_rows.specs.Steps.{OfLength, FitsElimination}
 

@@ -15,8 +15,8 @@ use Rattle.cell_certificate.specs.Tests.{IsLevelAt, IsLeastAt}
 use Rattle.cell_certificate.proofs.Supports.{supports_are}
 use Rattle.cell_certificate.proofs.Together.{pairs_both, pairs_each}
 use Rattle.cayley.specs.Resting.{rise, normal_over}
-use Rattle.cayley.proofs.CellRows.{InRange, each_position}
-use Rattle.cayley.proofs.RestingGaps.{gap_is, zero_gap, positive_gap}
+use Rattle.cayley.proofs.OneCell.CellRows.{InRange, each_position}
+use Rattle.cayley.proofs.OneCell.RestingGaps.{gap_is, zero_gap, positive_gap}
 
 -- no point has an infinitesimal of its own
 abbrev pub HasNoRanks : List (List Point) → Type 0

@@ -10,13 +10,13 @@ use Rattle.cayley.specs.Problems.{Point, Problem, point_at}
 use Rattle.cayley.specs.Cells.{Cell, IsOf}
 use Rattle.cayley.specs.Normals.{Normal, height, gap, IsNormal}
 use Rattle.cayley.specs.Mixed.{HasFirstEntries}
-use Rattle.cayley.proofs.ScaledInverse.{dot-scale}
-use Rattle.cayley.proofs.RowNormals.{entry, gap-at, at-zero}
+use Rattle.cayley.proofs.Algebra.ScaledInverse.{dot-scale}
+use Rattle.cayley.proofs.Algebra.RowNormals.{entry, gap-at, at-zero}
 use Rattle.cell_certificate.specs.Tests.{IsLevelAt}
 use Rattle.cell_certificate.proofs.Levels.{HasNoRanks, Even, shape, first_even, second_even, level_to}
 use Rattle.cell_certificate.proofs.Together.{pairs_both}
 use Rattle.cayley.specs.Resting.{rise}
-use Rattle.cayley.proofs.RestingGaps.{height-zero}
+use Rattle.cayley.proofs.OneCell.RestingGaps.{height-zero}
 
 base_less : (a c : Point) → a.rank ≡ 0 → c.rank ≡ 0 → at (sub (height time_zero c) (height time_zero a)) 0 ≡ c.base -ℤ a.base
 base_less a c ra rc = ap₂ (λ x y. at (sub x y) 0) (height-zero c rc) (height-zero a ra) ∙ minus a.base c.base

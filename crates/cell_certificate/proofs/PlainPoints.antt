@@ -4,7 +4,7 @@ use Rattle.std.proofs.lemmas.List.{length-map, take_all}
 use Rattle.cayley.specs.Problems.{Point, ranked_supports, first_points, file_points}
 use Rattle.cayley.specs.Files.{FilePoint, File, plain_problem}
 use Rattle.cayley.specs.Valid.{IsValidFile, IsValidProblem}
-use Rattle.cayley.proofs.PlainProblems.{plain_is, plain_valid}
+use Rattle.cayley.proofs.OneCell.PlainProblems.{plain_is, plain_valid}
 use Rattle.cell_certificate.specs.Sides.{at_rest}
 use Rattle.cell_certificate.proofs.Supports.{supports_are}
 

@@ -8,7 +8,7 @@ use Rattle.cayley.specs.Valid.{IsValidFile, IsWithinFile}
 use Rattle.cayley.specs.Files.{FilePoint, File, resting, plain_problem}
 use Rattle.cayley.specs.Problems.{version1, with_rank, ranked_supports}
 use Rattle.cayley.specs.Cells.{Cell, IsOf}
-use Rattle.cayley.proofs.Lists.{map_map}
+use Rattle.cayley.proofs.Lists.Each.{map_map}
 use Rattle.cell_certificate.specs.Sides.{at_rest, seen, IsNear, IsPairOf}
 use Rattle.cell_certificate.proofs.Turns.{pair_at, same_count}
 

@@ -18,7 +18,7 @@ use Rattle.cayley.specs.Problems.{Problem, IsProblem, point_at}
 use Rattle.cayley.specs.Cells.{Cell, IsOf, IsIndependent}
 use Rattle.cayley.specs.Mixed.{IsCoprime}
 use Rattle.cayley.specs.Rows.{edge_rows}
-use Rattle.cayley.proofs.OneNormal.{same_values}
+use Rattle.cayley.proofs.OneCell.OneNormal.{same_values}
 use Rattle.cell_certificate.specs.Sums.{FitsRise, FitsAt, FitsFurther}
 use Rattle.cell_certificate.specs.Tests.{IsLevelAt}
 use Rattle.cell_certificate.specs.Written.{FitsWorking}
@@ -28,8 +28,8 @@ use Rattle.cell_certificate.proofs.MixedLines.{first_entries}
 use Rattle.cell_certificate.proofs.Multiples.{divides_whole, multiple_is, less_fits, rise_less}
 use Rattle.cell_certificate.proofs.Together.{pairs_map}
 use Rattle.cayley.specs.Resting.{normal_over}
-use Rattle.cayley.proofs.CellRows.{rows_count}
-use Rattle.cayley.proofs.RestingGaps.{level_from}
+use Rattle.cayley.proofs.OneCell.CellRows.{rows_count}
+use Rattle.cayley.proofs.OneCell.RestingGaps.{level_from}
 
 lcm_up : (n j l : ℕ) (rows : List (List ℤ)) → IsReduced n j rows → 0 < l → 0 < lcm_from j l rows
 unfolding lcm_from

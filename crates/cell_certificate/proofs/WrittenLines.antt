@@ -8,7 +8,7 @@ use Rattle.cayley.specs.Valid.{IsValidFile}
 use Rattle.cayley.specs.Cells.{Cell, IsSorted, IsIndependent}
 use Rattle.cayley.specs.Normals.{IsNormal}
 use Rattle.cayley.specs.Mixed.{IsAlive, IsMixedCell, IsLowestNormal}
-use Rattle.cayley.proofs.OneNormal.{all_above_any}
+use Rattle.cayley.proofs.OneCell.OneNormal.{all_above_any}
 use Rattle.listing_text.specs.declared.listing.Listing.{Listing}
 use Rattle.listing_text.specs.declared.listing.ListedCell.{ListedCell}
 use Rattle.cell_certificate.specs.declared.judgement.Judgement.{Judgement}

@@ -10,7 +10,7 @@ use Rattle.reduced_rows.specs.Steps.{OfLength, elimination, FitsElimination}
 use Rattle.cayley.specs.Problems.{Problem, IsProblem}
 use Rattle.cayley.specs.Cells.{Cell, IsOf, IsIndependent, IsCellKernel}
 use Rattle.cayley.specs.Rows.{edge_rows}
-use Rattle.cayley.proofs.CellRows.{rows_width, rows_independent, independent_rows, pairs_from_rows}
+use Rattle.cayley.proofs.OneCell.CellRows.{rows_width, rows_independent, independent_rows, pairs_from_rows}
 use Rattle.circuit.specs.declared.circuits.Circuit.{Circuit}
 use Rattle.circuit.specs.Inverses.{Inverse, inverse_of, FitsInverse}
 use Rattle.circuit.specs.Workings.{difference, FitsCoefficients, IsCircuitFrom, FitsCircuit, FitsCircuitWorking, IsCircuitOfRows}

@@ -8,7 +8,7 @@ use Rattle.int_vectors.specs.Fits.{FitsDot}
 use Rattle.int_vectors.specs.Vectors.{Each, sub, dot}
 use Rattle.int_vectors.proofs.BoundSums.{room_fits, room_at}
 use Rattle.cayley.specs.Valid.{IsCornerCoordinate}
-use Rattle.cayley.proofs.EdgeRows.{abs_sub}
+use Rattle.cayley.proofs.OneCell.EdgeRows.{abs_sub}
 
 minus_one : (x y : ℤ) → x +ℤ neg_ℤ (pos 1) *ℤ y ≡ x -ℤ y
 minus_one x y = omega (arith, ints)

@@ -6,7 +6,7 @@ use Rattle.wide_int.specs.Whole.{FitsWhole}
 use Rattle.int_vectors.specs.Fits.{AllFit, FitsDot}
 use Rattle.int_vectors.specs.Vectors.{Each, at, dot}
 use Rattle.int_vectors.proofs.BoundSums.{abs_neg}
-use Rattle.cayley.proofs.EdgeRows.{fits-append}
+use Rattle.cayley.proofs.OneCell.EdgeRows.{fits-append}
 use Rattle.circuit.specs.Workings.{less_own, products, coefficients_from}
 
 -- the number of the pair's own support, and of another

@@ -13,9 +13,9 @@ use Rattle.cayley.specs.Problems.{Point, Problem, IsProblem, point_at, HasSamePo
 use Rattle.cayley.specs.Cells.{Cell, IsOf}
 use Rattle.cayley.specs.Rows.{edge_rows}
 use Rattle.cayley.specs.Dependencies.{support_at, pair_at, IsFurtherAt, IsPositiveDependency}
-use Rattle.cayley.proofs.CellRows.{InRange, each_position, long_sub, rows_independent, rows_count, rows_width}
-use Rattle.cayley.proofs.OneDependency.{pairs_from, numbers_of_rows, dependency_law}
-use Rattle.cayley.proofs.Unperturbed.{point_unranked, support_unranked, same_rows, same_dimension, same_points, same_of, same_well, same_further}
+use Rattle.cayley.proofs.OneCell.CellRows.{InRange, each_position, long_sub, rows_independent, rows_count, rows_width}
+use Rattle.cayley.proofs.OneCell.OneDependency.{pairs_from, numbers_of_rows, dependency_law}
+use Rattle.cayley.proofs.OneCell.Unperturbed.{point_unranked, support_unranked, same_rows, same_dimension, same_points, same_of, same_well, same_further}
 use Rattle.circuit.specs.declared.circuits.Circuit.{Circuit}
 use Rattle.circuit.specs.Circuits.{numbers_of, IsCircuit}
 use Rattle.circuit.specs.Inverses.{Inverse, inverse_of, scaled_columns, IsInverseOf}

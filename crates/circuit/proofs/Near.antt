@@ -4,7 +4,7 @@ use Rattle.std.proofs.lemmas.Int.{ints}
 use Rattle.std.specs.Int.{w128}
 use Rattle.int_vectors.specs.Vectors.{Each, sub}
 use Rattle.cayley.specs.Valid.{IsCornerCoordinate}
-use Rattle.cayley.proofs.EdgeRows.{small_fits}
+use Rattle.cayley.proofs.OneCell.EdgeRows.{small_fits}
 
 minus_one : (x y : ℤ) → x +ℤ neg_ℤ (pos 1) *ℤ y ≡ x -ℤ y
 minus_one x y = omega (arith, ints)

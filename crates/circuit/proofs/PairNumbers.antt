@@ -5,7 +5,7 @@ use Rattle.std.proofs.Math.IntN.{ℤ, pos, ◌+ℤ◌, ◌-ℤ◌, ◌*ℤ◌, n
 use Rattle.int_vectors.specs.Vectors.{at, scale}
 use Rattle.cayley.specs.Cells.{Cell}
 use Rattle.cayley.specs.Dependencies.{number_at}
-use Rattle.cayley.proofs.OneDependency.{even_pairs, pairs_from}
+use Rattle.cayley.proofs.OneCell.OneDependency.{even_pairs, pairs_from}
 use Rattle.circuit.specs.Circuits.{pairs_of, last_of}
 use Rattle.circuit.specs.Workings.{less_own, coefficients_from}
 

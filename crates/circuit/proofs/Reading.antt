@@ -6,8 +6,8 @@ use Rattle.cayley.specs.Problems.{Point, Problem, point_at}
 use Rattle.cayley.specs.Cells.{Cell, EachPair}
 use Rattle.cayley.specs.Dependencies.{support_at, pair_at}
 use Rattle.cayley.specs.Valid.{IsValidProblem, IsCornerCoordinate}
-use Rattle.cayley.proofs.CellRows.{InRange, each_position}
-use Rattle.cayley.proofs.Supports.{valid_points}
+use Rattle.cayley.proofs.OneCell.CellRows.{InRange, each_position}
+use Rattle.cayley.proofs.Lists.Supports.{valid_points}
 
 pub support_read : (supports : List (List Point)) (j : ℕ) → slice_index_or supports j [] ≡ support_at supports j
 support_read [] j = refl

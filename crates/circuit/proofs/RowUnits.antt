@@ -6,7 +6,7 @@ use Rattle.reduced_rows.specs.Carried.{unit, HaveUnits}
 use Rattle.cayley.specs.Problems.{Point, Problem, IsProblem, point_at}
 use Rattle.cayley.specs.Cells.{Cell, EachPair, IsOf}
 use Rattle.cayley.specs.Rows.{unit_row, edge_rows_from, edge_rows}
-use Rattle.cayley.proofs.CellRows.{HaveLength, InRange, edge_long}
+use Rattle.cayley.proofs.OneCell.CellRows.{HaveLength, InRange, edge_long}
 
 at-past : (xs ys : List ℤ) (m k : ℕ) → m ≡ length xs + k → at (xs ++ ys) m ≡ at ys k
 at-past [] ys m k e = let f : m ≡ k = omega (arith, e) in ap (at ys) f

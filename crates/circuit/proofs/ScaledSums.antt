@@ -12,9 +12,9 @@ use Rattle.reduced_rows.proofs.InverseSums.{inverse_columns}
 use Rattle.cayley.specs.Problems.{Point, Problem, IsProblem, point_at}
 use Rattle.cayley.specs.Cells.{Cell, EachPair, IsOf}
 use Rattle.cayley.specs.Rows.{edge_rows_from, edge_rows}
-use Rattle.cayley.proofs.CellNormals.{edges}
-use Rattle.cayley.proofs.CellRows.{HaveLength, InRange, edge_long, dot-front, rows_count}
-use Rattle.cayley.proofs.RowDependencies.{IsDependency}
+use Rattle.cayley.proofs.OneCell.CellNormals.{edges}
+use Rattle.cayley.proofs.OneCell.CellRows.{HaveLength, InRange, edge_long, dot-front, rows_count}
+use Rattle.cayley.proofs.Algebra.RowDependencies.{IsDependency}
 use Rattle.circuit.specs.Inverses.{scaled_columns, inverse_of}
 use Rattle.circuit.specs.Workings.{products}
 use Rattle.circuit.proofs.RowUnits.{rows_units}

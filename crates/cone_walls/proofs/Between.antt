@@ -5,7 +5,7 @@ use Rattle.wide_int.specs.Whole.{FitsWhole}
 use Rattle.int_vectors.specs.Vectors.{Each, dot, sub}
 use Rattle.int_vectors.specs.Fits.{FitsDot}
 use Rattle.int_vectors.proofs.DotSteps as steps
-use Rattle.cayley.proofs.CellRows.{long_sub}
+use Rattle.cayley.proofs.OneCell.CellRows.{long_sub}
 
 pub each_at : (P : ℤ → Type 0) (xs : List ℤ) (i : ℕ) → i < length xs → Each xs P → P (get_or xs i (pos 0))
 each_at P [] i lt e = absurd (omega arith)

@@ -7,7 +7,7 @@ use Rattle.int_vectors.specs.Vectors.{Each}
 use Rattle.cayley.specs.Problems.{Point, Problem, origin, point_at}
 use Rattle.cayley.specs.Cells.{Cell, EachPair, IsOf, IsFurther}
 use Rattle.cayley.specs.Dependencies.{support_at, pair_at, IsFurtherAt}
-use Rattle.cayley.proofs.Lists.{each_append}
+use Rattle.cayley.proofs.Lists.Each.{each_append}
 use Rattle.crossing.specs.declared.line.WallLine.{WallLine}
 use Rattle.inner_normal.specs.declared.moving.MovingNormal.{MovingNormal}
 use Rattle.cone_walls.specs.Numbers.{alpha, beta}

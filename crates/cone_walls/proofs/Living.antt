@@ -8,11 +8,11 @@ use Rattle.wide_int.proofs.Ring.{as_D, Ds, same_D, D-pos}
 use Rattle.wide_int.proofs.Order.{sign_cases, mul_pos_ℤ, mul_le_ℤ}
 use Rattle.int_vectors.specs.Vectors.{Each, add, scale, at}
 use Rattle.cayley.specs.Times.{Time, IsPositive}
-use Rattle.cayley.proofs.ScaledInverse.{at-add, at-scale}
-use Rattle.cayley.proofs.Lexicographic.{positive-same}
-use Rattle.cayley.proofs.Proportion.{in_proportion}
-use Rattle.cayley.proofs.Lines.{NotNegative, positive_mix}
-use Rattle.cayley.proofs.Lists.{all_each}
+use Rattle.cayley.proofs.Algebra.ScaledInverse.{at-add, at-scale}
+use Rattle.cayley.proofs.Order.Lexicographic.{positive-same}
+use Rattle.cayley.proofs.Order.Proportion.{in_proportion}
+use Rattle.cayley.proofs.Order.Lines.{NotNegative, positive_mix}
+use Rattle.cayley.proofs.Lists.Each.{all_each}
 use Rattle.crossing.specs.declared.line.WallLine.{WallLine}
 use Rattle.crossing.specs.declared.entry.Entry.{Entry}
 use Rattle.crossing.specs.declared.entry.Entry.TheVariants as entry

@@ -5,8 +5,8 @@ use Rattle.cayley.specs.Times.{Time, IsPositive}
 use Rattle.cayley.specs.Problems.{Problem, unperturbed, HasSamePoints}
 use Rattle.cayley.specs.Cells.{Cell, IsIndependent}
 use Rattle.cayley.specs.Mixed.{IsAlive}
-use Rattle.cayley.proofs.Lines.{line_at}
-use Rattle.cayley.proofs.Lists.{each_map, each_unmap}
+use Rattle.cayley.proofs.Order.Lines.{line_at}
+use Rattle.cayley.proofs.Lists.Each.{each_map, each_unmap}
 use Rattle.crossing.specs.declared.line.WallLine.{WallLine}
 use Rattle.crossing.specs.declared.entry.Entry.TheVariants.{Dead}
 use Rattle.crossing.specs.Entries.{IsEntry}

@@ -7,12 +7,12 @@ use Rattle.cayley.specs.Times.{Time, time_zero}
 use Rattle.cayley.specs.Problems.{Point, Problem, point_at, unperturbed}
 use Rattle.cayley.specs.Cells.{Cell, EachPair}
 use Rattle.cayley.specs.Normals.{Normal, height, gap}
-use Rattle.cayley.proofs.ScaledInverse.{at-add, at-scale}
-use Rattle.cayley.proofs.RowNormals.{at-zero}
-use Rattle.cayley.proofs.RowDependencies.{zero-at}
-use Rattle.cayley.proofs.Lines.{Line, line_at}
-use Rattle.cayley.proofs.MovingNormals as laws
-use Rattle.cayley.proofs.MovingNormals.{Moving, moving, wall, moving_gap, IsFrame}
+use Rattle.cayley.proofs.Algebra.ScaledInverse.{at-add, at-scale}
+use Rattle.cayley.proofs.Algebra.RowNormals.{at-zero}
+use Rattle.cayley.proofs.Algebra.RowDependencies.{zero-at}
+use Rattle.cayley.proofs.Order.Lines.{Line, line_at}
+use Rattle.cayley.proofs.OneCell.MovingNormals as laws
+use Rattle.cayley.proofs.OneCell.MovingNormals.{Moving, moving, wall, moving_gap, IsFrame}
 use Rattle.inner_normal.specs.MovingNormals.{values, IsAt, IsMovingNormal}
 use Rattle.inner_normal.specs.declared.moving.MovingNormal.{MovingNormal}
 

@@ -8,7 +8,7 @@ use Rattle.reduced_rows.proofs.Outcome.{reduced_means}
 use Rattle.cayley.specs.Problems.{Problem, IsProblem}
 use Rattle.cayley.specs.Cells.{Cell, IsOf, IsIndependent, IsCellKernel}
 use Rattle.cayley.specs.Rows.{edge_rows}
-use Rattle.cayley.proofs.CellRows.{rows_independent, rows_count, rows_width}
+use Rattle.cayley.proofs.OneCell.CellRows.{rows_independent, rows_count, rows_width}
 use Rattle.inner_normal.proofs.CellAnswers.{cell_kernel, kernel_dependent}
 use Rattle.inner_normal.specs.declared.moving.MovingNormal.{MovingNormal}
 use Rattle.inner_normal.specs.Workings.{denominator, FitsNormal, IsNormalFrom}

@@ -3,9 +3,9 @@ use Rattle.std.proofs.Common.{◌≡◌, ℕ, ◌-◌, ◌≤◌, [], length, ar
 use Rattle.int_vectors.specs.Vectors.{Each}
 use Rattle.cayley.specs.Problems.{Point, Problem, point_at}
 use Rattle.cayley.specs.Valid.{IsValidProblem, IsCornerCoordinate, support_at}
-use Rattle.cayley.proofs.CellRows.{each_position}
-use Rattle.cayley.proofs.Lists.{all_each}
-use Rattle.cayley.proofs.Supports.{valid_points}
+use Rattle.cayley.proofs.OneCell.CellRows.{each_position}
+use Rattle.cayley.proofs.Lists.Each.{all_each}
+use Rattle.cayley.proofs.Lists.Supports.{valid_points}
 
 abbrev pub IsNear : ℕ → Point → Type 0
 IsNear n x = (length x.coordinates ≡ n) × Each x.coordinates IsCornerCoordinate

@@ -7,8 +7,8 @@ use Rattle.wide_int.proofs.Ring.{as_D, Ds, same_D}
 use Rattle.wide_int.proofs.Order.{sign_cases, mul_pos_ℤ, mul_le_ℤ}
 use Rattle.int_vectors.specs.Vectors.{Each, IsZero, add, scale}
 use Rattle.cayley.specs.Times.{Time, IsPositive}
-use Rattle.cayley.proofs.Lexicographic.{positive-unscale, not_zero, not_both, three}
-use Rattle.cayley.proofs.Lists.{all_each}
+use Rattle.cayley.proofs.Order.Lexicographic.{positive-unscale, not_zero, not_both, three}
+use Rattle.cayley.proofs.Lists.Each.{all_each}
 use Rattle.crossing.specs.declared.line.WallLine.{WallLine}
 use Rattle.crossing.specs.Lines.{value_at}
 use Rattle.crossing.specs.Entries.{LiveSometime}

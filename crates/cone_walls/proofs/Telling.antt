@@ -9,11 +9,11 @@ use Rattle.cayley.specs.Cells.{Cell}
 use Rattle.cayley.specs.Dependencies.{support_at, pair_at, minus}
 use Rattle.cayley.specs.Normals.{Normal, gap, IsNormal}
 use Rattle.cayley.specs.Mixed.{IsAlive}
-use Rattle.cayley.proofs.Lines.{Line, line_at, AllPositive}
-use Rattle.cayley.proofs.Lists.{each_weaker}
-use Rattle.cayley.proofs.MovingNormals.{lined_frame}
-use Rattle.cayley.proofs.MovingWalls.{wall_above, wall_level, wall_below}
-use Rattle.cayley.proofs.Unperturbed.{point_unranked, support_unranked, same_unperturbed, same_well, same_of, same_independent}
+use Rattle.cayley.proofs.Order.Lines.{Line, line_at, AllPositive}
+use Rattle.cayley.proofs.Lists.Each.{each_weaker}
+use Rattle.cayley.proofs.OneCell.MovingNormals.{lined_frame}
+use Rattle.cayley.proofs.OneCell.MovingWalls.{wall_above, wall_level, wall_below}
+use Rattle.cayley.proofs.OneCell.Unperturbed.{point_unranked, support_unranked, same_unperturbed, same_well, same_of, same_independent}
 use Rattle.crossing.specs.declared.line.WallLine.{WallLine}
 use Rattle.crossing.specs.Lines.{value_at}
 use Rattle.inner_normal.specs.declared.moving.MovingNormal.{MovingNormal}

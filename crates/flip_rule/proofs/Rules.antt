@@ -10,7 +10,7 @@ use Rattle.cayley.specs.Cells.{Cell, IsCell, EachPair, IsListOf}
 use Rattle.cayley.specs.Dependencies.{support_at, pair_at, IsFurtherAt}
 use Rattle.cayley.specs.Flips.{for_first, for_second, IsSuccessorAt, IsPredecessorAt, IsLeastPredecessor}
 use Rattle.cayley.specs.FlipRules.{taken, successors_by, KeepsBy, in_order, predecessors_by}
-use Rattle.cayley.proofs.FlipSigns.{flip_rule, predecessor_rule}
+use Rattle.cayley.proofs.Flipping.FlipSigns.{flip_rule, predecessor_rule}
 use Rattle.flip_rule.specs.Signs.{HaveSigns, HasMinus}
 use Rattle.flip_rule.specs.Rules.{IsNewPoint, IsSuccessor, IsPredecessor}
 use Rattle.flip_rule.proofs.NumberSigns.{sign_of, number_of, has_number, has_law_sign, below_is, above_is, not_both, minus_not_plus}

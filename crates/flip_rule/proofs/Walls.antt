@@ -7,7 +7,7 @@ use Rattle.cayley.specs.Cells.{Cell, IsListOf}
 use Rattle.cayley.specs.Parents.{Precedes}
 use Rattle.cayley.specs.Dependencies.{number_at}
 use Rattle.cayley.specs.Flips.{Flips}
-use Rattle.cayley.proofs.FlipPlaces.{flip_law}
+use Rattle.cayley.proofs.Flipping.FlipPlaces.{flip_law}
 use Rattle.flip_rule.specs.Rules.{IsSuccessor, IsPredecessor}
 use Rattle.flip_rule.specs.Walls.{IsWall}
 use Rattle.flip_rule.proofs.Rules.{list_by, successor_is, predecessor_is}

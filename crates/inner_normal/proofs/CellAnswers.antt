@@ -7,8 +7,8 @@ use Rattle.reduced_rows.specs.CellRefusals.{IsEliminated}
 use Rattle.cayley.specs.Problems.{Problem, IsProblem, HasSamePoints}
 use Rattle.cayley.specs.Cells.{Cell, IsOf, IsIndependent, IsCellKernel}
 use Rattle.cayley.specs.Rows.{edge_rows}
-use Rattle.cayley.proofs.CellRows.{pairs_from_rows, rows_width}
-use Rattle.cayley.proofs.Unperturbed.{same_rows, same_dimension, same_well, same_of}
+use Rattle.cayley.proofs.OneCell.CellRows.{pairs_from_rows, rows_width}
+use Rattle.cayley.proofs.OneCell.Unperturbed.{same_rows, same_dimension, same_well, same_of}
 use Rattle.inner_normal.specs.declared.moving.MovingNormal.{MovingNormal}
 use Rattle.inner_normal.specs.MovingNormals.{IsMovingNormal}
 

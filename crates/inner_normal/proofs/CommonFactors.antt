@@ -15,7 +15,7 @@ use Rattle.cayley.specs.Mixed.{IsCoprime, IsLowestNormal}
 use Rattle.cayley.specs.Problems.{Problem, file_points}
 use Rattle.cayley.specs.Cells.{Cell}
 use Rattle.cayley.specs.Times.{time_zero}
-use Rattle.cayley.proofs.CellNormals.{a_normal}
+use Rattle.cayley.proofs.OneCell.CellNormals.{a_normal}
 use Rattle.inner_normal.specs.declared.moving.MovingNormal.{MovingNormal}
 use Rattle.inner_normal.specs.LowestForms.{IsLowestForm}
 use Rattle.inner_normal.specs.MovingNormals.{IsMovingNormal}

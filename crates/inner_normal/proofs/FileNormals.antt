@@ -11,11 +11,11 @@ use Rattle.cayley.specs.Problems.Version.{version1, version2}
 use Rattle.cayley.specs.Cells.{Cell, EachPair, IsOf, IsIndependent}
 use Rattle.cayley.specs.Normals.{Normal, height, gap}
 use Rattle.cayley.specs.Mixed.{HasFirstEntries}
-use Rattle.cayley.proofs.Lists.{read_take}
-use Rattle.cayley.proofs.ScaledInverse.{dot-scale}
-use Rattle.cayley.proofs.RowNormals.{entry, gap-at, at-zero}
-use Rattle.cayley.proofs.CellNormals.{a_normal}
-use Rattle.cayley.proofs.Unperturbed.{point_unranked, same_unperturbed, same_each_pair, same_of, same_independent}
+use Rattle.cayley.proofs.Lists.Each.{read_take}
+use Rattle.cayley.proofs.Algebra.ScaledInverse.{dot-scale}
+use Rattle.cayley.proofs.Algebra.RowNormals.{entry, gap-at, at-zero}
+use Rattle.cayley.proofs.OneCell.CellNormals.{a_normal}
+use Rattle.cayley.proofs.OneCell.Unperturbed.{point_unranked, same_unperturbed, same_each_pair, same_of, same_independent}
 use Rattle.inner_normal.specs.declared.moving.MovingNormal.{MovingNormal}
 use Rattle.inner_normal.specs.MovingNormals.{numerators, IsMovingNormal}
 use Rattle.inner_normal.proofs.PairEquations.{difference, Levels, dot_numerators, first_rise, moving_of}

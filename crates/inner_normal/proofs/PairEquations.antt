@@ -10,14 +10,14 @@ use Rattle.cayley.specs.Problems.{Point, Problem, IsProblem, point_at, with_rank
 use Rattle.cayley.specs.Cells.{Cell, EachPair, IsOf, IsIndependent}
 use Rattle.cayley.specs.Normals.{Normal, mark, height, gap, IsNormal}
 use Rattle.cayley.specs.Mixed.{HasFirstEntries}
-use Rattle.cayley.proofs.Lexicographic.{minus_one}
-use Rattle.cayley.proofs.ScaledInverse.{at-add, at-scale, dot-add, dot-scale, length-scale}
-use Rattle.cayley.proofs.RowNormals.{entry, gap-at, at-zero}
-use Rattle.cayley.proofs.CellNormals.{same_long}
-use Rattle.cayley.proofs.OneNormal.{same_values}
-use Rattle.cayley.proofs.MovingNormals as moved
-use Rattle.cayley.proofs.MovingNormals.{Moving, moving, wall, IsFrame, moving_normal}
-use Rattle.cayley.proofs.Unperturbed.{same_unperturbed, same_well, same_of, same_independent, each_pair_unranked, point_unranked}
+use Rattle.cayley.proofs.Order.Lexicographic.{minus_one}
+use Rattle.cayley.proofs.Algebra.ScaledInverse.{at-add, at-scale, dot-add, dot-scale, length-scale}
+use Rattle.cayley.proofs.Algebra.RowNormals.{entry, gap-at, at-zero}
+use Rattle.cayley.proofs.OneCell.CellNormals.{same_long}
+use Rattle.cayley.proofs.OneCell.OneNormal.{same_values}
+use Rattle.cayley.proofs.OneCell.MovingNormals as moved
+use Rattle.cayley.proofs.OneCell.MovingNormals.{Moving, moving, wall, IsFrame, moving_normal}
+use Rattle.cayley.proofs.OneCell.Unperturbed.{same_unperturbed, same_well, same_of, same_independent, each_pair_unranked, point_unranked}
 use Rattle.inner_normal.specs.declared.moving.MovingNormal.{MovingNormal}
 use Rattle.inner_normal.specs.MovingNormals.{values, numerators, IsMovingNormal}
 

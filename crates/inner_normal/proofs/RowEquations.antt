@@ -13,8 +13,8 @@ use Rattle.reduced_rows.proofs.Solving.{column_solves}
 use Rattle.cayley.specs.Problems.{Problem, IsProblem, point_at}
 use Rattle.cayley.specs.Cells.{Cell, EachPair, IsOf}
 use Rattle.cayley.specs.Rows.{edge_rows}
-use Rattle.cayley.proofs.CellRows.{pairs_orthogonal, rows_independent, rows_count, rows_width}
-use Rattle.cayley.proofs.Soon.{each_pair-map}
+use Rattle.cayley.proofs.OneCell.CellRows.{pairs_orthogonal, rows_independent, rows_count, rows_width}
+use Rattle.cayley.proofs.Order.Soon.{each_pair-map}
 use Rattle.inner_normal.specs.declared.moving.MovingNormal.{MovingNormal}
 use Rattle.inner_normal.specs.MovingNormals.{IsMovingNormal}
 use Rattle.inner_normal.specs.Workings.{denominator, IsNormalFrom}

@@ -9,8 +9,8 @@ use Rattle.cayley.specs.Problems.{Version, version1, Problem}
 use Rattle.cayley.specs.Cells.{Cell, IsOf, EachPair}
 use Rattle.cayley.specs.Files.{File, FilePoint, resting}
 use Rattle.cayley.specs.Valid.{IsValidFile}
-use Rattle.cayley.proofs.PlainProblems.{plain_is}
-use Rattle.cayley.proofs.Lists.{each_weaker}
+use Rattle.cayley.proofs.OneCell.PlainProblems.{plain_is}
+use Rattle.cayley.proofs.Lists.Each.{each_weaker}
 use Rattle.line_text.specs.Lines.{Row, lines_of, end_line_of}
 use Rattle.support_text.specs.declared.fault.Kind.TheVariants.{Header, Count, Number, Range}
 use Rattle.support_text.specs.declared.fault.FormatFault.{FormatFault}

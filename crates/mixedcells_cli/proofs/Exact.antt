@@ -4,7 +4,7 @@ use native.Mathlib.Decide.{ℕ_discrete, dec_lt}
 use Rattle.cayley.specs.Problems.{Problem}
 use Rattle.cayley.specs.Cells.{Cell}
 use Rattle.cayley.specs.Files.{File, plain_problem}
-use Rattle.cayley.proofs.Listing.{compare_cells}
+use Rattle.cayley.proofs.Searching.Listing.{compare_cells}
 use Rattle.support_text.specs.declared.fault.FormatFault.{FormatFault}
 use Rattle.support_text.specs.ProblemText.{problem_of}
 use Rattle.listing_text.specs.Listings.{IsListingOf}

@@ -8,7 +8,7 @@ use Rattle.cayley.specs.Mixed.{IsMixedCell}
 use Rattle.cayley.specs.Files.{File, FilePoint, resting, plain_problem}
 use Rattle.cayley.specs.Valid.{IsValidFile}
 use Rattle.cayley.specs.declared.found.FoundCell.{FoundCell}
-use Rattle.cayley.proofs.PlainProblems.{plain_is}
+use Rattle.cayley.proofs.OneCell.PlainProblems.{plain_is}
 use Rattle.listing_text.specs.Writing.{listing_text}
 use Rattle.plain_lister.specs.Choices.{HasTooMany}
 use Rattle.plain_lister.specs.Lists.{HasNoCorners, HasLowestNormal, AllFit}

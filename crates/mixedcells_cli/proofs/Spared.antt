@@ -13,9 +13,9 @@ use Rattle.cayley.specs.Mixed.{IsAlive, IsMixedCell, IsLowestNormal, HasFirstEnt
 use Rattle.cayley.specs.Files.{File, FilePoint, resting, plain_problem}
 use Rattle.cayley.specs.Valid.{IsValidFile}
 use Rattle.cayley.specs.declared.found.FoundCell.{FoundCell}
-use Rattle.cayley.proofs.CellNormals.{length-scale}
-use Rattle.cayley.proofs.Lists.{map_map, each_unmap, each_weaker}
-use Rattle.cayley.proofs.PlainProblems.{plain_is}
+use Rattle.cayley.proofs.OneCell.CellNormals.{length-scale}
+use Rattle.cayley.proofs.Lists.Each.{map_map, each_unmap, each_weaker}
+use Rattle.cayley.proofs.OneCell.PlainProblems.{plain_is}
 use Rattle.listing_text.specs.declared.listing.Listing.{Listing}
 use Rattle.listing_text.specs.declared.listing.ListedCell.{ListedCell}
 use Rattle.listing_text.specs.ListingText.{Listed, counts_of, listing_of}

@@ -8,7 +8,7 @@ use Rattle.int_vectors.proofs.DotSteps as steps
 use Rattle.int_vectors.specs.Bounds.{size, Room}
 use Rattle.int_vectors.proofs.BoundSums.{abs_sub, room_at, room_fits}
 use Rattle.cayley.specs.Valid.{IsCoordinate}
-use Rattle.cayley.proofs.CellRows.{long_sub}
+use Rattle.cayley.proofs.OneCell.CellRows.{long_sub}
 
 pub each_at : (P : ℤ → Type 0) (xs : List ℤ) (i : ℕ) → i < length xs → Each xs P → P (get_or xs i (pos 0))
 each_at P [] i lt e = absurd (omega arith)

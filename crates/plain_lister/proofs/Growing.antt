@@ -9,8 +9,8 @@ use Rattle.cayley.specs.Cells.{Cell, EachPair, IsCell, IsOf, IsLess, IsSorted, I
 use Rattle.cayley.specs.Mixed.{IsAlive, IsMixedCell, IsLowestNormal}
 use Rattle.cayley.specs.declared.found.Normal.{Normal}
 use Rattle.cayley.specs.Valid.{IsValidProblem, IsValidCell}
-use Rattle.cayley.proofs.Listing.{Has}
-use Rattle.cayley.proofs.Members.{has_contains, contains_has}
+use Rattle.cayley.proofs.Searching.Listing.{Has}
+use Rattle.cayley.proofs.Searching.Members.{has_contains, contains_has}
 use Rattle.plain_lister.specs.Choices.{HasTooMany, HavePairs}
 use Rattle.plain_lister.specs.Lists.{HasNoCorners, HasLowestNormal, IsFirstUnfit, IsJudged, AllFit, IsPlainFault}
 use Rattle.plain_lister.specs.Order.{IsChoice, IsLast, IsNext, firsts}

@@ -7,13 +7,13 @@ use Rattle.cayley.specs.Problems.{Point, Problem, IsProblem, point_at}
 use Rattle.cayley.specs.Cells.{Cell, EachPair, IsOf, IsIndependent, IsFurther}
 use Rattle.cayley.specs.Normals.{gap, IsNormal}
 use Rattle.cayley.specs.Mixed.{IsAlive}
-use Rattle.cayley.proofs.Gaps.{gap_two}
-use Rattle.cayley.proofs.Proportion.{in_proportion}
+use Rattle.cayley.proofs.OneCell.Gaps.{gap_two}
+use Rattle.cayley.proofs.Order.Proportion.{in_proportion}
 use Rattle.cayley.specs.Rows.{edge_rows}
 use Rattle.plain_lister.proofs.Pairs.{pairs_both, pairs_each}
 use Rattle.cayley.specs.Resting.{rise, normal_over}
-use Rattle.cayley.proofs.RestingGaps.{values, positive_gap, zero_gap, level_from}
-use Rattle.cayley.proofs.CellRows.{InRange, each_position}
+use Rattle.cayley.proofs.OneCell.RestingGaps.{values, positive_gap, zero_gap, level_from}
+use Rattle.cayley.proofs.OneCell.CellRows.{InRange, each_position}
 
 length-values : (ps : List ℤ) → length (values ps) ≡ length ps
 length-values [] = refl

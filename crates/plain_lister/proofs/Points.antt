@@ -5,7 +5,7 @@ use Rattle.cayley.specs.Problems.{Point, Problem, point_at}
 use Rattle.cayley.specs.Valid.{IsValidProblem, IsWithinProblem, support_at}
 use Rattle.plain_lister.specs.Lists.{HasNoCorners}
 use Rattle.plain_lister.proofs.Plain.{small_of}
-use Rattle.cayley.proofs.CellRows.{each_position}
+use Rattle.cayley.proofs.OneCell.CellRows.{each_position}
 
 pub each_support : (P : List Point → Type 0) (supports : List (List Point)) (i : ℕ) → i < length supports → Each supports P → P (get_or supports i [])
 each_support P [] i lt e = absurd (omega arith)

@@ -27,7 +27,7 @@ use Rattle.plain_lister.proofs.Still.{NoEntry, spanned_column, no_shares, no_spe
 use Rattle.plain_lister.proofs.Plain.{even_of, resting_of, own_points}
 use Rattle.plain_lister.proofs.Lowest.{same_value}
 use Rattle.cayley.specs.Resting.{normal_over}
-use Rattle.cayley.proofs.CellRows.{InRange, HaveLength, edge_long, each_position, rows_independent, pairs_from_rows, length-rows}
+use Rattle.cayley.proofs.OneCell.CellRows.{InRange, HaveLength, edge_long, each_position, rows_independent, pairs_from_rows, length-rows}
 
 length-unit_row : (n i : ℕ) → length (unit_row n i) ≡ n
 length-unit_row n i = length-set (replicate n (pos 0)) i (pos 1) ∙ length-replicate n (pos 0)

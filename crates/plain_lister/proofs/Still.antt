@@ -13,7 +13,7 @@ use Rattle.cayley.specs.Problems.{Point, point_at}
 use Rattle.cayley.specs.Cells.{Cell, EachPair}
 use Rattle.cayley.specs.Rows.{edge_rows_from}
 use Rattle.plain_lister.specs.Workings.{denominator, moving_part, FitsSum}
-use Rattle.cayley.proofs.CellRows.{InRange, HaveLength, edge_long, each_position}
+use Rattle.cayley.proofs.OneCell.CellRows.{InRange, HaveLength, edge_long, each_position}
 
 pub zero_fits : FitsWhole (pos 0)
 zero_fits = omega arith

@@ -1,4 +1,4 @@
-use Rattle.cayley.proofs.OneNormal.{alive_by_any_normal}
+use Rattle.cayley.proofs.OneCell.OneNormal.{alive_by_any_normal}
 use Rattle.cayley.proofs.laws.alive_by_any_normal.Goals as goal
 
 pub returns : goal.returns

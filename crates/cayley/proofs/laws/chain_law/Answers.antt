@@ -1,4 +1,4 @@
-use Rattle.cayley.proofs.ComputedLaw.{chain_law}
+use Rattle.cayley.proofs.Searching.ComputedLaw.{chain_law}
 use Rattle.cayley.proofs.laws.chain_law.Goals as goal
 
 pub returns : goal.returns

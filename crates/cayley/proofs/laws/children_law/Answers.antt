@@ -1,4 +1,4 @@
-use Rattle.cayley.proofs.FlipChildren.{children_law}
+use Rattle.cayley.proofs.Flipping.FlipChildren.{children_law}
 use Rattle.cayley.proofs.laws.children_law.Goals as goal
 
 pub returns : goal.returns

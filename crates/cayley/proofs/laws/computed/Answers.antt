@@ -1,4 +1,4 @@
-use Rattle.cayley.proofs.ComputedLaw.{computed_law}
+use Rattle.cayley.proofs.Searching.ComputedLaw.{computed_law}
 use Rattle.cayley.proofs.laws.computed.Goals as goal
 
 pub returns : goal.returns

@@ -1,4 +1,4 @@
-use Rattle.cayley.proofs.LifeLaws.{life_law}
+use Rattle.cayley.proofs.Life.LifeLaws.{life_law}
 use Rattle.cayley.proofs.laws.life_law.Goals as goal
 
 pub returns : goal.returns

@@ -1,4 +1,4 @@
-use Rattle.cayley.proofs.LifeLaws.{once_law}
+use Rattle.cayley.proofs.Life.LifeLaws.{once_law}
 use Rattle.cayley.proofs.laws.once_law.Goals as goal
 
 pub returns : goal.returns

@@ -1,4 +1,4 @@
-use Rattle.cayley.proofs.LifeLaws.{parent_law}
+use Rattle.cayley.proofs.Life.LifeLaws.{parent_law}
 use Rattle.cayley.proofs.laws.parent_law.Goals as goal
 
 pub returns : goal.returns

@@ -1,4 +1,4 @@
-use Rattle.cayley.proofs.FlipSigns.{predecessor_rule}
+use Rattle.cayley.proofs.Flipping.FlipSigns.{predecessor_rule}
 use Rattle.cayley.proofs.laws.predecessor_rule.Goals as goal
 
 pub returns : goal.returns

@@ -3,10 +3,10 @@ use Rattle.std.specs.Prelude.{IsTrue}
 use Rattle.std.specs.BTreeSet.{contains}
 use Rattle.cayley.specs.Stored.{held, point}
 use Rattle.cayley.specs.Valid.{IsWithinFile}
-use Rattle.cayley.proofs.FileFaults.{coords_of, coords_here, within_not_outside, is_repeat, sound_more}
-use Rattle.cayley.proofs.Repeats.{key_cmp, keeps_more}
+use Rattle.cayley.proofs.Refusals.FileFaults.{coords_of, coords_here, within_not_outside, is_repeat, sound_more}
+use Rattle.cayley.proofs.Refusals.Repeats.{key_cmp, keeps_more}
 use Rattle.cayley.proofs.problem_shapes.check_file_points.Goals as goal
-use Rattle.cayley.proofs.Lists.{not_false, not_true, no_both}
+use Rattle.cayley.proofs.Lists.Each.{not_false, not_true, no_both}
 
 pub returns-in-Ok-false : goal.returns-in-Ok-false
 returns-in-Ok-false c =

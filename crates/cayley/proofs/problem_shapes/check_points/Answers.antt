@@ -1,8 +1,8 @@
 use Rattle.std.proofs.Common.{◌+◌}
 use Rattle.std.proofs.lemmas.Result.{err_from_is_err_and}
 use Rattle.cayley.specs.Stored.{problem_of}
-use Rattle.cayley.proofs.FileFaults.{more_sound, first_fault}
-use Rattle.cayley.proofs.ProblemFaults.{IsFaultyPlace, IsOutsidePlace, fault_here, sound_here, sound_past}
+use Rattle.cayley.proofs.Refusals.FileFaults.{more_sound, first_fault}
+use Rattle.cayley.proofs.Refusals.ProblemFaults.{IsFaultyPlace, IsOutsidePlace, fault_here, sound_here, sound_past}
 use Rattle.cayley.proofs.problem_shapes.check_points.Goals as goal
 
 pub returns-in_err-check_support : goal.returns-in_err-check_support

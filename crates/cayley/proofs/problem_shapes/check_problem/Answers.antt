@@ -1,8 +1,8 @@
 use Rattle.std.proofs.Common.{refl, arith}
 use Rattle.std.proofs.lemmas.Result.{MatchResult-weaker}
 use Rattle.cayley.specs.Stored.{problem_of}
-use Rattle.cayley.proofs.ProblemShapes.{shape_to, counted}
-use Rattle.cayley.proofs.ProblemFaults.{problem_fault, problem_valid, stored_ranks}
+use Rattle.cayley.proofs.Refusals.ProblemShapes.{shape_to, counted}
+use Rattle.cayley.proofs.Refusals.ProblemFaults.{problem_fault, problem_valid, stored_ranks}
 use Rattle.cayley.proofs.problem_shapes.check_problem.Goals as goal
 
 pub check_points-requires : goal.check_points-requires

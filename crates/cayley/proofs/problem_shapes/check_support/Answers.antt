@@ -8,8 +8,8 @@ use Rattle.cayley.specs.Problems.{Point}
 use Rattle.cayley.specs.Shapes.{IsFaulty, IsOutside, IsFirstCorner, IsSupportFault}
 use Rattle.cayley.specs.Stored.{held, point}
 use Rattle.cayley.specs.Valid.{IsWithinCorners}
-use Rattle.cayley.proofs.Lists.{map_map, map_take, map_drop}
-use Rattle.cayley.proofs.SupportFaults.{carried, corner_fault, no_fault}
+use Rattle.cayley.proofs.Lists.Each.{map_map, map_take, map_drop}
+use Rattle.cayley.proofs.Refusals.SupportFaults.{carried, corner_fault, no_fault}
 use Rattle.cayley.proofs.problem_shapes.check_support.Goals as goal
 
 module _ (f : ℕ) (front back given points : List StoredPoint) (same : given ≡ points) where

@@ -1,4 +1,4 @@
-use Rattle.cayley.proofs.ProblemShapes.{shape_from, shape_to}
+use Rattle.cayley.proofs.Refusals.ProblemShapes.{shape_from, shape_to}
 use Rattle.cayley.proofs.problem_shapes.has_problem_shape.Goals as goal
 
 pub returns-then-is_dimension : goal.returns-then-is_dimension

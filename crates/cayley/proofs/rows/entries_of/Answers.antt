@@ -6,7 +6,7 @@ use Rattle.int_vectors.specs.Fits.{AllFit}
 use Rattle.int_vectors.specs.Vectors.{sub}
 use Rattle.cayley.specs.Rows.{edge_row, unit_row}
 use Rattle.cayley.specs.Stored.{point}
-use Rattle.cayley.proofs.EdgeRows.{row_joined, row_long, length-sub, edge_fits}
+use Rattle.cayley.proofs.OneCell.EdgeRows.{row_joined, row_long, length-sub, edge_fits}
 use Rattle.cayley.proofs.rows.entries_of.Goals as goal
 
 pub push_unit-requires-clause-short : goal.push_unit-requires-clause-short

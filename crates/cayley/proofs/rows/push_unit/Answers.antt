@@ -1,5 +1,5 @@
 use Rattle.std.proofs.Common.{arith}
-use Rattle.cayley.proofs.EdgeRows.{unit_set}
+use Rattle.cayley.proofs.OneCell.EdgeRows.{unit_set}
 use Rattle.cayley.proofs.rows.push_unit.Goals as goal
 
 pub returns : goal.returns

@@ -1,7 +1,7 @@
 use Rattle.std.proofs.Common.{refl}
 use Rattle.std.proofs.lemmas.Result.{err_from_is_err_and}
-use Rattle.cayley.proofs.FileShapes.{given, few_points, few_starts, same_points}
-use Rattle.cayley.proofs.FileFaults.{file_fault, start_fault, file_valid}
+use Rattle.cayley.proofs.Refusals.FileShapes.{given, few_points, few_starts, same_points}
+use Rattle.cayley.proofs.Refusals.FileFaults.{file_fault, start_fault, file_valid}
 use Rattle.cayley.proofs.shapes.check_file.Goals as goal
 
 pub check_points-requires-clause-counts : goal.check_points-requires-clause-counts

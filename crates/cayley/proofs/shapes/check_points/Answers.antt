@@ -4,7 +4,7 @@ use Rattle.std.proofs.lemmas.List.{length-map}
 use Rattle.cayley.specs.Files.{FilePoint}
 use Rattle.cayley.specs.Shapes.{IsFaulty, IsOutside, IsSupportFault, file_support}
 use Rattle.cayley.specs.Stored.{file_point}
-use Rattle.cayley.proofs.FileFaults.{more_sound, first_fault, support_here, sound_past}
+use Rattle.cayley.proofs.Refusals.FileFaults.{more_sound, first_fault, support_here, sound_past}
 use Rattle.cayley.proofs.shapes.check_points.Goals as goal
 
 pub returns-in_err-check_support : goal.returns-in_err-check_support

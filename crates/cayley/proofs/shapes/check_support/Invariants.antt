@@ -2,7 +2,7 @@ use Rattle.std.proofs.Common.{ℕ, ◌≤◌, map}
 use Rattle.cayley.specs.Stored.{file_point}
 use Rattle.cayley.specs.Shapes.{IsFaulty}
 use Rattle.cayley.specs.declared.points.FilePoint.{FilePoint}
-use Rattle.cayley.proofs.Repeats.{Keeps}
+use Rattle.cayley.proofs.Refusals.Repeats.{Keeps}
 use Rattle.cayley.proofs.shapes.check_support.Given as goal
 
 abbrev pub invariant-loop-k : goal.invariant-loop-k

@@ -1,4 +1,4 @@
-use Rattle.cayley.proofs.FileShapes.{shape_from, shape_to}
+use Rattle.cayley.proofs.Refusals.FileShapes.{shape_from, shape_to}
 use Rattle.cayley.proofs.shapes.has_file_shape.Goals as goal
 
 pub returns-then-has_supports : goal.returns-then-has_supports

@@ -4,7 +4,7 @@ use Rattle.reduced_rows.specs.Refusals.{IsFault, HasKernel}
 use Rattle.cayley.specs.Rows.{edge_rows}
 use Rattle.cell_certificate.proofs.EdgeRows.{rows_lengths, full_rank, less_rank}
 use Rattle.cell_certificate.proofs.judge.rank_of.Goals as goal
-use Rattle.cayley.proofs.CellRows.{rows_count}
+use Rattle.cayley.proofs.OneCell.CellRows.{rows_count}
 
 pub reduce-requires-clause-count : goal.reduce-requires-clause-count
 reduce-requires-clause-count c = ap length c.in_ok-rows.ensures.value ∙ rows_count c.args.problem.now c.args.cell.now c.dim.ensures.valid.shape.problem c.requires ∙ sym c.dim.ensures.value

@@ -1,7 +1,7 @@
 use Rattle.std.proofs.Common.{◌≡◌, ◌-◌, ◌<◌, ◌≤◌, sym, ap, subst, ◌∙◌, length, arith, List, ℕ}
 use Rattle.std.specs.Prelude.{slice_index_or}
 use Rattle.cayley.specs.Dependencies.{support_at, pair_at}
-use Rattle.cayley.proofs.CellRows.{InRange}
+use Rattle.cayley.proofs.OneCell.CellRows.{InRange}
 use Rattle.circuit.proofs.Reading.{cell_long, pair_read, pair_range}
 use Rattle.circuit.proofs.making.first_of.Goals as goal
 

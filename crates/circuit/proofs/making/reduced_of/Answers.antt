@@ -4,7 +4,7 @@ use Rattle.reduced_rows.specs.Steps.{OfLength, elimination, FitsElimination}
 use Rattle.reduced_rows.specs.CellRefusals.{IsEliminated}
 use Rattle.reduced_rows.specs.Refusals.{IsFault, HasKernel}
 use Rattle.cayley.specs.Rows.{edge_rows}
-use Rattle.cayley.proofs.CellRows.{rows_count}
+use Rattle.cayley.proofs.OneCell.CellRows.{rows_count}
 use Rattle.circuit.proofs.Answered.{given_lengths}
 use Rattle.circuit.proofs.making.reduced_of.Goals as goal
 

@@ -1,5 +1,5 @@
 use Rattle.inner_normal.proofs.CellAnswers.{rows_lengths, cell_kernel, kernel_dependent, of_each}
-use Rattle.cayley.proofs.CellRows.{rows_independent}
+use Rattle.cayley.proofs.OneCell.CellRows.{rows_independent}
 use Rattle.inner_normal.proofs.normals.normal_of.Goals as goal
 
 pub reduce-requires-clause-lengths : goal.reduce-requires-clause-lengths

@@ -1,6 +1,6 @@
 use Rattle.std.proofs.Common.{◌≡◌, ◌∙◌, ap₂}
 use Rattle.std.specs.Cmp.Lexicographic.{slice_cmp}
-use Rattle.cayley.proofs.CellOrder.{pair_cmp, compared}
+use Rattle.cayley.proofs.OneCell.CellOrder.{pair_cmp, compared}
 use Rattle.cayley.proofs.cells.Cell.cmp.Goals as goal
 
 pub returns : goal.returns

@@ -1,7 +1,7 @@
 use Rattle.std.proofs.Common.{◌≡◌, ◌∙◌, ◌≤◌, ap, sym, subst, length}
 use Rattle.cayley.specs.Valid.{IsValidCell}
 use Rattle.cayley.specs.Flips.{put_pair}
-use Rattle.cayley.proofs.PutPairs.{written, valid_put}
+use Rattle.cayley.proofs.OneCell.PutPairs.{written, valid_put}
 use Rattle.cayley.proofs.cells.Cell.with_pair.Goals as goal
 
 pub invariant_of-result : goal.invariant_of-result

@@ -3,8 +3,8 @@ use Rattle.std.proofs.lemmas.List.{length-map}
 use Rattle.cayley.specs.Problems.{Problem}
 use Rattle.cayley.specs.Stored.{point, problem_of}
 use Rattle.cayley.specs.declared.points.Support.{Support}
-use Rattle.cayley.proofs.Lists.{map_at}
-use Rattle.cayley.proofs.Supports.{few_points}
+use Rattle.cayley.proofs.Lists.Each.{map_at}
+use Rattle.cayley.proofs.Lists.Supports.{few_points}
 use Rattle.cayley.proofs.problems.Problem.count.Goals as goal
 
 pub overflow_cast-result : goal.overflow_cast-result

@@ -7,7 +7,7 @@ use Rattle.cayley.specs.Stored.{point}
 use Rattle.cayley.specs.Valid.{IsCornerCoordinate}
 use Rattle.cayley.specs.declared.points.Point.{Point as StoredPoint}
 use Rattle.cayley.specs.declared.points.Support.{Support}
-use Rattle.cayley.proofs.Supports.{stored_points}
+use Rattle.cayley.proofs.Lists.Supports.{stored_points}
 use Rattle.cayley.proofs.problems.Problem.edge_row.Goals as goal
 
 pub pair_row-requires-clause-points : goal.pair_row-requires-clause-points

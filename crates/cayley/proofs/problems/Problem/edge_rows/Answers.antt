@@ -11,10 +11,10 @@ use Rattle.cayley.specs.Stored.{point}
 use Rattle.cayley.specs.Valid.{IsValidProblem, IsCornerCoordinate}
 use Rattle.cayley.specs.declared.points.Point.{Point as StoredPoint}
 use Rattle.cayley.specs.declared.points.Support.{Support}
-use Rattle.cayley.proofs.EdgeRows.{length-edge_rows, edge_rows_wide}
-use Rattle.cayley.proofs.Lists.{all_each}
-use Rattle.cayley.proofs.Pairs.{each_pair_long}
-use Rattle.cayley.proofs.Supports.{stored_points}
+use Rattle.cayley.proofs.OneCell.EdgeRows.{length-edge_rows, edge_rows_wide}
+use Rattle.cayley.proofs.Lists.Each.{all_each}
+use Rattle.cayley.proofs.Lists.Pairs.{each_pair_long}
+use Rattle.cayley.proofs.Lists.Supports.{stored_points}
 use Rattle.cayley.proofs.problems.Problem.edge_rows.Goals as goal
 
 abbrev points_of : List Support → List (List Point)

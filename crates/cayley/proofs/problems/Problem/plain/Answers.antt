@@ -1,7 +1,7 @@
 use Rattle.std.proofs.Common.{◌∙◌, sym, subst}
 use Rattle.cayley.specs.Valid.{IsValidProblem}
-use Rattle.cayley.proofs.Lists.{all_each}
-use Rattle.cayley.proofs.PlainProblems.{plain_is, plain_valid, few, counts_of, points_of, alike}
+use Rattle.cayley.proofs.Lists.Each.{all_each}
+use Rattle.cayley.proofs.OneCell.PlainProblems.{plain_is, plain_valid, few, counts_of, points_of, alike}
 use Rattle.cayley.proofs.problems.Problem.plain.Goals as goal
 
 pub resting_supports-requires : goal.resting_supports-requires

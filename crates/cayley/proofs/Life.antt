@@ -1,0 +1,10 @@
+-- when a cell is alive
+pub mod Decisions
+pub mod Begins
+pub mod Ends
+pub mod Exits
+pub mod Levels
+pub mod Ties
+pub mod Crossings
+pub mod Walls
+pub mod LifeLaws

@@ -1,0 +1,91 @@
+-- the rules on lines that give where a cell begins and ends
+use Rattle.std.proofs.Common.{List, [], ◌∷◌, arith, sym, ◌∙◌, inl, inr, ◌<ℤ◌}
+use Rattle.std.proofs.lemmas.Int.{ints}
+use Rattle.std.proofs.Math.IntN.{pos}
+use Rattle.wide_int.proofs.Order.{sign_cases}
+use Rattle.cayley.proofs.Order.Lexicographic.{positive-same, not_zero}
+use Rattle.cayley.proofs.Order.Lines.{Line, line_at, later, Before, NotNegative, AllPositive, before_trans, zero_of, before_zero, rises, level}
+use Rattle.cayley.proofs.Searching.Listing.{Has}
+use Rattle.cayley.proofs.Order.Times.{Same, same_sym, time_cases, never_before, middle, turned, turned_both}
+use Rattle.cayley.proofs.Algebra.RowNormals.{at-zero}
+use Rattle.cayley.proofs.Algebra.RowDependencies.{zero-at}
+use Rattle.cayley.proofs.Order.Lined.{Lined, Early, Begins, early_from, rise_of, each_has, begins_same, turned_line, turn-at}
+use Rattle.cayley.proofs.Life.Begins.{LastRise, begins_last, signs_early_at}
+use Rattle.cayley.proofs.Life.Ends.{Late, Ends}
+use Rattle.int_vectors.specs.Vectors.{Each, IsZero}
+use Rattle.cayley.specs.Times.{IsPositive, Time}
+
+-- ---- the entry
+-- no line rises, and all are positive at some time: at all early times
+pub early_rule : (P : Time → Type 0) (p : Lined P) → Each p.list (λ l. ¬ (pos 0 <ℤ l.slope)) → (x : Time) → P x → Early P
+early_rule P p none x h = early_from P p (signs_early_at p.list x none (p.to x h))
+
+-- t is the zero of a rising line, and no rising line has its zero later
+pub begins_rule : (P : Time → Type 0) (p : Lined P) (m : LastRise p.list) (t : Time) → Same t (rise_of m.line m.rise) → (x : Time) → P x → Begins P t
+begins_rule P p m t s x h = begins_same P p (rise_of m.line m.rise) t (same_sym t (rise_of m.line m.rise) s) (begins_last P p x h m).0
+
+-- ---- the exit
+abbrev pub FallsFrom : Time → Line → Type 0
+FallsFrom t l = (n : l.slope <ℤ pos 0) → NotNegative (later t (zero_of l n))
+
+pub record FirstFall (ls : List Line) : Type 0 where
+  pub line : Line
+  pub one : Has line ls
+  pub fall : line.slope <ℤ pos 0
+  pub others : Each ls (FallsFrom (zero_of line fall))
+
+-- from x, at which a line is positive, up to t: positive
+line_until : (l : Line) (x t y : Time) → IsPositive (line_at l x) → FallsFrom t l → Before x y → Before y t → IsPositive (line_at l y)
+line_until l x t y p f a b =
+    sign_cases l.slope
+    (λ n. (before_zero l n y).0 (before_trans y t (zero_of l n) b (f n)))
+    (λ z. level l x y z p)
+    (λ r. rises l x y r a (inl p))
+
+lines_until : (ls : List Line) (x t y : Time) → AllPositive ls x → Each ls (FallsFrom t) → Before x y → Before y t → AllPositive ls y
+lines_until [] x t y p f a b = tt
+lines_until (l ∷ ls) x t y p f a b = (line_until l x t y p.0 f.0 a b, lines_until ls x t y p.1 f.1 a b)
+
+fall_zero : (l : Line) (n : l.slope <ℤ pos 0) → ¬ (IsPositive (line_at l (zero_of l n)))
+fall_zero l n p = never_before (zero_of l n) ((before_zero l n (zero_of l n)).1 p)
+
+-- the least zero of the falling lines, and all are positive at some time: it ends there
+pub ends_rule : (P : Time → Type 0) (p : Lined P) (m : FirstFall p.list) (x : Time) → P x → Ends P (zero_of m.line m.fall) × Before x (zero_of m.line m.fall)
+ends_rule P p m x h =
+    let t = zero_of m.line m.fall in
+    let b = (before_zero m.line m.fall x).1 (each_has (λ l. IsPositive (line_at l x)) p.list m.line (p.to x h) m.one) in
+    (((x, b, λ y a c. p.from y (lines_until p.list x t y (p.to x h) m.others a c)), (λ k. fall_zero m.line m.fall (each_has (λ l. IsPositive (line_at l t)) p.list m.line (p.to t k) m.one))), b)
+
+line_on : (l : Line) (x y : Time) → IsPositive (line_at l x) → ¬ (l.slope <ℤ pos 0) → Before x y → IsPositive (line_at l y)
+line_on l x y p f a = sign_cases l.slope (λ n. absurd (f n)) (λ z. level l x y z p) (λ r. rises l x y r a (inl p))
+
+lines_on : (ls : List Line) (x y : Time) → AllPositive ls x → Each ls (λ l. ¬ (l.slope <ℤ pos 0)) → Before x y → AllPositive ls y
+lines_on [] x y p f a = tt
+lines_on (l ∷ ls) x y p f a = (line_on l x y p.0 f.0 a, lines_on ls x y p.1 f.1 a)
+
+-- no line falls: at all late times
+pub late_rule : (P : Time → Type 0) (p : Lined P) → Each p.list (λ l. ¬ (l.slope <ℤ pos 0)) → (x : Time) → P x → Late P
+late_rule P p none x h = (x, λ y a. p.from y (lines_on p.list x y (p.to x h) none a))
+
+-- ---- the other lines at the exit
+-- a line that is positive before t, and falls to zero after t if it falls, is positive at t
+pub still_positive : (l : Line) (x t : Time) → IsPositive (line_at l x) → Before x t → ((n : l.slope <ℤ pos 0) → Before t (zero_of l n)) → IsPositive (line_at l t)
+still_positive l x t p a f = sign_cases l.slope (λ n. (before_zero l n t).0 (f n)) (λ z. level l x t z p) (λ r. rises l x t r a (inl p))
+
+-- a falling line, before a time at which it isn't negative
+pub falls_back : (l : Line) (m t : Time) → l.slope <ℤ pos 0 → Before m t → NotNegative (line_at l t) → IsPositive (line_at l m)
+unfolding turned_line
+falls_back l m t n b h =
+    positive-same _ _ (turn-at l m)
+    (rises (turned_line l) (turned t) (turned m) (omega (arith, ints)) (turned_both m t b)
+    (elim h [ inl p ↦ inl (positive-same _ _ (λ e. sym (turn-at l t e)) p) | inr z ↦ inr (zero-at _ (λ e. turn-at l t e ∙ at-zero (line_at l t) e z)) ]))
+
+-- a falling line is zero at one time only
+pub only_zero : (l : Line) (n : l.slope <ℤ pos 0) (t : Time) → IsZero (line_at l t) → Same t (zero_of l n)
+only_zero l n t z =
+    time_cases t (zero_of l n)
+    (λ b. absurd (not_zero (line_at l t) ((before_zero l n t).0 b) z))
+    (λ s. s)
+    (λ b.
+    let m = middle (zero_of l n) t b in
+    absurd (never_before m.m (before_trans m.m (zero_of l n) m.m ((before_zero l n m.m).1 (falls_back l m.m t n m.before (inr z))) (inl m.after))))

@@ -1,0 +1,8 @@
+-- values, times and lines over time
+pub mod Lexicographic
+pub mod Proportion
+pub mod Lines
+pub mod Soon
+pub mod Mirror
+pub mod Times
+pub mod Lined

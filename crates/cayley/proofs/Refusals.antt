@@ -1,0 +1,8 @@
+-- the first fault of a file or a problem
+pub mod FileShapes
+pub mod Repeats
+pub mod FileFaults
+pub mod Stable
+pub mod SupportFaults
+pub mod ProblemShapes
+pub mod ProblemFaults

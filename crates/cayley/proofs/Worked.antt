@@ -1,0 +1,6 @@
+-- worked problems, from the definitions alone
+pub mod Paths
+mod Squares
+mod OnePoint
+mod LevelPoints
+mod ThreePoints
