@@ -1,20 +1,20 @@
 //! `mixedcells`: the mixed cells of lifted supports, listed exactly.
 #![tactic(auto)]
 
-mod lines;
-mod outcome;
-mod replies;
-mod top;
-mod words;
-
 use edge_io::{StdSink, StdSource};
+use mixedcells::run_alone;
 use std::env;
+use std::io::ErrorKind;
 use std::process::ExitCode;
 
-// The words after the program's name, unless there is no memory for them.
+// The words after the program's name; none if one of them isn't UTF-8, since no command has such a
+// word. `None` where there is no memory for them.
 fn words_of(rt: &HostRuntime) -> Option<Vec<String>> {
-    let args = env::args(rt).ok()?;
-    args.skip(1).collect(rt.alloc()).ok()
+    match env::args(rt) {
+        Ok(args) => args.skip(1).collect(rt.alloc()).ok(),
+        Err(fault) if fault.kind() == ErrorKind::InvalidData => Some(Vec::new(rt.alloc())),
+        Err(_) => None,
+    }
 }
 
 fn main(rt: HostRuntime) -> ExitCode {
@@ -23,9 +23,6 @@ fn main(rt: HostRuntime) -> ExitCode {
     };
     let mut source = StdSource::new(rt.stdin());
     let mut sink = StdSink::new(rt.stdout());
-    let outcome = top::run_alone(rt.alloc(), &words, &mut source, &mut sink);
+    let outcome = run_alone(rt.alloc(), &words, &mut source, &mut sink);
     ExitCode::from(outcome.status())
 }
-
-#[cfg(test)]
-mod tests;

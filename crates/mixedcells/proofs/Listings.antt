@@ -13,8 +13,8 @@ use Rattle.listing_text.specs.Writing.{listing_text}
 use Rattle.plain_lister.specs.Choices.{HasTooMany}
 use Rattle.plain_lister.specs.Lists.{HasNoCorners, HasLowestNormal, AllFit}
 use Rattle.plain_lister.specs.Progress.{cells_of}
-use Rattle.mixedcells_cli.specs.declared.outcome.Outcome.TheVariants as variant
-use Rattle.mixedcells_cli.specs.Answers.{IsListReply}
+use Rattle.mixedcells.specs.declared.outcome.Outcome.TheVariants as variant
+use Rattle.mixedcells.specs.Answers.{IsListReply}
 
 all_of_file : (i : ℕ) (supports : List (List FilePoint)) → EachSupport i (map length supports) (map (map resting) supports) (λ i f s. length s ≡ f)
 all_of_file i [] = tt

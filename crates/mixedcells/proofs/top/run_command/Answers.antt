@@ -1,5 +1,5 @@
-use Rattle.mixedcells_cli.proofs.Ended.{long_written, long_cut}
-use Rattle.mixedcells_cli.proofs.top.run_command.Goals as goal
+use Rattle.mixedcells.proofs.Ended.{long_written, long_cut}
+use Rattle.mixedcells.proofs.top.run_command.Goals as goal
 
 pub returns-in-Err-TooLong-clause-written : goal.returns-in-Err-TooLong-clause-written
 returns-in-Err-TooLong-clause-written g c =

@@ -9,11 +9,11 @@ use Rattle.listing_text.specs.Listings.{IsListingOf}
 use Rattle.cell_certificate.specs.Answers.{IsRight, IsWrong, IsTooLarge}
 use Rattle.plain_lister.specs.Choices.{HasTooMany, IsExcess}
 use Rattle.plain_lister.specs.Lists.{AllFit, IsFirstUnfit}
-use Rattle.mixedcells_cli.specs.declared.words.Command.{Command}
-use Rattle.mixedcells_cli.specs.declared.words.Command.TheVariants as verb
-use Rattle.mixedcells_cli.specs.declared.outcome.Outcome.{Outcome}
-use Rattle.mixedcells_cli.specs.declared.outcome.Outcome.TheVariants as variant
-use Rattle.mixedcells_cli.specs.Outcomes.{yes_line, format_line, no_line, overflow_line, too_many_line, overflow_cell}
+use Rattle.mixedcells.specs.declared.words.Command.{Command}
+use Rattle.mixedcells.specs.declared.words.Command.TheVariants as verb
+use Rattle.mixedcells.specs.declared.outcome.Outcome.{Outcome}
+use Rattle.mixedcells.specs.declared.outcome.Outcome.TheVariants as variant
+use Rattle.mixedcells.specs.Outcomes.{yes_line, format_line, no_line, overflow_line, too_many_line, overflow_cell}
 
 -- the longest input that is read
 abbrev pub limit : ℕ

@@ -1,5 +1,5 @@
 ghost use Rattle.std.specs.Prelude.{◌≡◌};
-ghost use Rattle.mixedcells_cli.specs.Outcomes.{status_of};
+ghost use Rattle.mixedcells.specs.Outcomes.{status_of};
 
 use cayley::Cell;
 

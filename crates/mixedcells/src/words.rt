@@ -1,5 +1,5 @@
 ghost use Rattle.std.specs.Prelude.{List, MatchOption, map, string_bytes};
-ghost use Rattle.mixedcells_cli.specs.Words.{Means, HasMeaning};
+ghost use Rattle.mixedcells.specs.Words.{Means, HasMeaning};
 
 /// What the words ask for.
 #[derive(Clone, Copy, Debug, PartialEq, Eq)]

@@ -12,12 +12,12 @@ use Rattle.cell_certificate.specs.Answers.{Answer, HadMemory, IsAnswer, IsTooLar
 use Rattle.cell_certificate.specs.Written.{AreListed, AreMixed}
 use Rattle.cell_certificate.proofs.OneAnswer.{yes_exactly, no_exactly, overflow_exactly}
 use Rattle.cell_certificate.proofs.MixedLines.{right_mixed}
-use Rattle.mixedcells_cli.specs.declared.outcome.Outcome.{Outcome}
-use Rattle.mixedcells_cli.specs.declared.outcome.Outcome.TheVariants as variant
-use Rattle.mixedcells_cli.specs.Outcomes.{status_of}
-use Rattle.mixedcells_cli.specs.Answers.{IsVerdictReply, IsListingText, IsCheckReply}
-use Rattle.mixedcells_cli.specs.Runs.{IsVerdict}
-use Rattle.mixedcells_cli.proofs.Readings.{ok_once, err_once, not_both}
+use Rattle.mixedcells.specs.declared.outcome.Outcome.{Outcome}
+use Rattle.mixedcells.specs.declared.outcome.Outcome.TheVariants as variant
+use Rattle.mixedcells.specs.Outcomes.{status_of}
+use Rattle.mixedcells.specs.Answers.{IsVerdictReply, IsListingText, IsCheckReply}
+use Rattle.mixedcells.specs.Runs.{IsVerdict}
+use Rattle.mixedcells.proofs.Readings.{ok_once, err_once, not_both}
 
 -- the outcome that tells an answer of the checker
 abbrev pub outcome_of : Answer → Outcome

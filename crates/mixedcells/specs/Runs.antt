@@ -10,12 +10,12 @@ use Rattle.listing_text.specs.Listings.{AreMixedCells}
 use Rattle.listing_text.specs.Writing.{listing_text}
 use Rattle.cell_certificate.specs.Written.{IsOwnTooLarge}
 use Rattle.plain_lister.specs.Lists.{AllFit}
-use Rattle.mixedcells_cli.specs.declared.words.Command.{Command}
-use Rattle.mixedcells_cli.specs.declared.outcome.Outcome.{Outcome}
-use Rattle.mixedcells_cli.specs.declared.outcome.Outcome.TheVariants as variant
-use Rattle.mixedcells_cli.specs.Words.{Means, HasMeaning}
-use Rattle.mixedcells_cli.specs.Outcomes.{line_of}
-use Rattle.mixedcells_cli.specs.Answers.{limit, IsListingText, IsReply}
+use Rattle.mixedcells.specs.declared.words.Command.{Command}
+use Rattle.mixedcells.specs.declared.outcome.Outcome.{Outcome}
+use Rattle.mixedcells.specs.declared.outcome.Outcome.TheVariants as variant
+use Rattle.mixedcells.specs.Words.{Means, HasMeaning}
+use Rattle.mixedcells.specs.Outcomes.{line_of}
+use Rattle.mixedcells.specs.Answers.{limit, IsListingText, IsReply}
 
 -- what a command answers on its whole input, and what it writes for that: the input is too long, or the command replies
 abbrev pub IsAnswer : Command → List ℕ → Outcome → List ℕ → Type 0

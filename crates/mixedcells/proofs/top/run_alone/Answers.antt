@@ -1,8 +1,8 @@
 use Rattle.std.proofs.Common.{inr, Some}
-use Rattle.mixedcells_cli.proofs.Ended.{usage_cut, usage_written}
-use Rattle.mixedcells_cli.proofs.Exact.{comes, lists, ended_listed, ok_other, known}
-use Rattle.mixedcells_cli.proofs.Judged.{checked, judged, spares, plain_spared}
-use Rattle.mixedcells_cli.proofs.top.run_alone.Goals as goal
+use Rattle.mixedcells.proofs.Ended.{usage_cut, usage_written}
+use Rattle.mixedcells.proofs.Exact.{comes, lists, ended_listed, ok_other, known}
+use Rattle.mixedcells.proofs.Judged.{checked, judged, spares, plain_spared}
+use Rattle.mixedcells.proofs.top.run_alone.Goals as goal
 
 pub returns-in-Some-clause-written : goal.returns-in-Some-clause-written
 returns-in-Some-clause-written g c = λ other.

@@ -1,8 +1,8 @@
 use Rattle.std.proofs.Common.{inl}
 use Rattle.listing_text.proofs.Formed.{listing_of_file}
-use Rattle.mixedcells_cli.specs.Answers.{IsVerdictReply, IsCheckReply}
-use Rattle.mixedcells_cli.proofs.Readings.{if_ok_weaker}
-use Rattle.mixedcells_cli.proofs.replies.check.Goals as goal
+use Rattle.mixedcells.specs.Answers.{IsVerdictReply, IsCheckReply}
+use Rattle.mixedcells.proofs.Readings.{if_ok_weaker}
+use Rattle.mixedcells.proofs.replies.check.Goals as goal
 
 pub verdict-requires : goal.verdict-requires
 verdict-requires c = listing_of_file c.args.bytes.now _ _ c.in-Ok.ensures

@@ -1,7 +1,7 @@
 use Rattle.std.proofs.Common.{subst, sym}
 use Rattle.plain_lister.specs.Lists.{HasNoCorners}
-use Rattle.mixedcells_cli.proofs.Listings.{no_corners, listing_reply}
-use Rattle.mixedcells_cli.proofs.replies.listing.Goals as goal
+use Rattle.mixedcells.proofs.Listings.{no_corners, listing_reply}
+use Rattle.mixedcells.proofs.replies.listing.Goals as goal
 
 pub plain_list-requires : goal.plain_list-requires
 plain_list-requires c = record { alone = subst HasNoCorners (sym c.in_ok-problem.ensures) (no_corners c.args.file.now c.dim-dim.ensures.valid) }

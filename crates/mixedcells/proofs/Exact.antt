@@ -10,16 +10,16 @@ use Rattle.support_text.specs.ProblemText.{problem_of}
 use Rattle.listing_text.specs.Listings.{IsListingOf}
 use Rattle.plain_lister.specs.Choices.{IsExcess, HasTooMany, product, pair_counts}
 use Rattle.plain_lister.specs.Lists.{IsFirstUnfit, AllFit}
-use Rattle.mixedcells_cli.specs.declared.words.Command.{Command}
-use Rattle.mixedcells_cli.specs.declared.words.Command.TheVariants as verb
-use Rattle.mixedcells_cli.specs.declared.outcome.Outcome.{Outcome}
-use Rattle.mixedcells_cli.specs.declared.outcome.Outcome.TheVariants as variant
-use Rattle.mixedcells_cli.specs.Words.{Means}
-use Rattle.mixedcells_cli.specs.Outcomes.{status_of}
-use Rattle.mixedcells_cli.specs.Answers.{limit, IsListReply, IsPlainReply, IsReply}
-use Rattle.mixedcells_cli.specs.Runs.{IsAnswer, IsCalledFor, IsFree}
-use Rattle.mixedcells_cli.proofs.Readings.{ok_once, err_once, not_both}
-use Rattle.mixedcells_cli.proofs.Checks.{one_check_reply}
+use Rattle.mixedcells.specs.declared.words.Command.{Command}
+use Rattle.mixedcells.specs.declared.words.Command.TheVariants as verb
+use Rattle.mixedcells.specs.declared.outcome.Outcome.{Outcome}
+use Rattle.mixedcells.specs.declared.outcome.Outcome.TheVariants as variant
+use Rattle.mixedcells.specs.Words.{Means}
+use Rattle.mixedcells.specs.Outcomes.{status_of}
+use Rattle.mixedcells.specs.Answers.{limit, IsListReply, IsPlainReply, IsReply}
+use Rattle.mixedcells.specs.Runs.{IsAnswer, IsCalledFor, IsFree}
+use Rattle.mixedcells.proofs.Readings.{ok_once, err_once, not_both}
+use Rattle.mixedcells.proofs.Checks.{one_check_reply}
 
 three_ways : {P : Type 0} (m n : ℕ) → (m < n → P) → (m ≡ n → P) → (n < m → P) → P
 three_ways m n f g h = elim (dec_lt m n) [ yes p ↦ f p | no q ↦ elim (ℕ_discrete m n) [ yes e ↦ g e | no r ↦ h (omega arith) ] ]

@@ -3,15 +3,15 @@ use Rattle.std.proofs.Common.{◌≡◌, ◌⊎◌, ℕ, ◌≤◌, List, length
 use Rattle.listing_text.specs.declared.listing.Listing.{Listing}
 use Rattle.cell_certificate.specs.Answers.{IsTooLarge}
 use Rattle.cell_certificate.specs.Written.{AreMixed}
-use Rattle.mixedcells_cli.specs.declared.words.Command.TheVariants as verb
-use Rattle.mixedcells_cli.specs.declared.outcome.Outcome.{Outcome}
-use Rattle.mixedcells_cli.specs.declared.outcome.Outcome.TheVariants as variant
-use Rattle.mixedcells_cli.specs.Words.{Means}
-use Rattle.mixedcells_cli.specs.Answers.{limit, IsListingText}
-use Rattle.mixedcells_cli.specs.Runs.{IsAnswer, IsCalledFor, IsFree, IsVerdict, IsWrittenListing, IsSpared}
-use Rattle.mixedcells_cli.proofs.Exact.{answer_of, reply_of, reply_not_long, free_or, known}
-use Rattle.mixedcells_cli.proofs.Checks.{checked_mixed, fitting_judged}
-use Rattle.mixedcells_cli.proofs.Spared.{plain_written, spared}
+use Rattle.mixedcells.specs.declared.words.Command.TheVariants as verb
+use Rattle.mixedcells.specs.declared.outcome.Outcome.{Outcome}
+use Rattle.mixedcells.specs.declared.outcome.Outcome.TheVariants as variant
+use Rattle.mixedcells.specs.Words.{Means}
+use Rattle.mixedcells.specs.Answers.{limit, IsListingText}
+use Rattle.mixedcells.specs.Runs.{IsAnswer, IsCalledFor, IsFree, IsVerdict, IsWrittenListing, IsSpared}
+use Rattle.mixedcells.proofs.Exact.{answer_of, reply_of, reply_not_long, free_or, known}
+use Rattle.mixedcells.proofs.Checks.{checked_mixed, fitting_judged}
+use Rattle.mixedcells.proofs.Spared.{plain_written, spared}
 
 module _ (words : List (List ℕ)) (bytes : List ℕ) (means : Means words verb.Check) where
   ended_yes : (t : List ℕ) → IsCalledFor words (Some bytes) variant.Ok t → (listing : Listing) × IsListingText bytes listing × AreMixed listing

@@ -2,12 +2,12 @@
 use Rattle.std.proofs.Common.{◌≡◌, ◌∙◌, ℕ, ◌+◌, ◌≤◌, List, length, take, Option, Some, None, codes, refl, sym, ap, subst, arith, inl, inr, ⊎_elim, length-append}
 use Rattle.std.specs.Io.KnownBytes.{Appends, Consumes}
 use Rattle.edge_io.specs.Faults.{Rose}
-use Rattle.mixedcells_cli.specs.Words.{HasMeaning}
-use Rattle.mixedcells_cli.specs.Outcomes.{status_of}
-use Rattle.mixedcells_cli.specs.Runs.{IsAnswer, IsInput, IsCalledFor, IsFree, IsCutOff, Finishes}
-use Rattle.mixedcells_cli.specs.declared.words.Command.{Command}
-use Rattle.mixedcells_cli.specs.declared.outcome.Outcome.{Outcome}
-use Rattle.mixedcells_cli.specs.declared.outcome.Outcome.TheVariants.{TooLong, Usage, WriteFault}
+use Rattle.mixedcells.specs.Words.{HasMeaning}
+use Rattle.mixedcells.specs.Outcomes.{status_of}
+use Rattle.mixedcells.specs.Runs.{IsAnswer, IsInput, IsCalledFor, IsFree, IsCutOff, Finishes}
+use Rattle.mixedcells.specs.declared.words.Command.{Command}
+use Rattle.mixedcells.specs.declared.outcome.Outcome.{Outcome}
+use Rattle.mixedcells.specs.declared.outcome.Outcome.TheVariants.{TooLong, Usage, WriteFault}
 
 -- where more bytes than the limit were taken the input is too long
 pub too_long : (command : Command) (left rest : Option (List ℕ)) (taken : List ℕ) → Consumes left rest taken → length taken ≡ 16777217

@@ -1,8 +1,8 @@
 -- The status and the line of each outcome.
 use Rattle.std.specs.Prelude.{ℕ, List, [], ◌++◌, codes, decimal, flat_map}
 use Rattle.cayley.specs.Cells.{Cell}
-use Rattle.mixedcells_cli.specs.declared.outcome.Outcome.{Outcome}
-use Rattle.mixedcells_cli.specs.declared.outcome.Outcome.TheVariants.{Ok, No, Usage, Format, OverflowCell, OverflowLine, ReadFault, WriteFault, OutOfMemory, TooLong, TooMany}
+use Rattle.mixedcells.specs.declared.outcome.Outcome.{Outcome}
+use Rattle.mixedcells.specs.declared.outcome.Outcome.TheVariants.{Ok, No, Usage, Format, OverflowCell, OverflowLine, ReadFault, WriteFault, OutOfMemory, TooLong, TooMany}
 
 -- the exit status of an outcome
 abbrev pub status_of : Outcome → ℕ

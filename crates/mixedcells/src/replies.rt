@@ -1,7 +1,7 @@
 // What each command replies on the bytes of its input.
 ghost use Rattle.std.specs.Prelude.{◌≡◌, IfOk};
 ghost use Rattle.cell_certificate.specs.Written.{AreListed};
-ghost use Rattle.mixedcells_cli.specs.Answers.{IsReply, IsPlainReply, IsListReply, IsCheckReply, IsVerdictReply, TellsFault};
+ghost use Rattle.mixedcells.specs.Answers.{IsReply, IsPlainReply, IsListReply, IsCheckReply, IsVerdictReply, TellsFault};
 
 use crate::lines::{format_line, no_line, overflow_cell, overflow_line, too_many_line, yes_line};
 use crate::outcome::Outcome;

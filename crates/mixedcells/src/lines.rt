@@ -1,6 +1,6 @@
 // The lines that are written for answers other than a listing.
 ghost use Rattle.std.specs.Prelude.{◌≡◌, IfOk};
-ghost use Rattle.mixedcells_cli.specs.Outcomes.{format_line, no_line, overflow_line, too_many_line, overflow_cell, yes_line};
+ghost use Rattle.mixedcells.specs.Outcomes.{format_line, no_line, overflow_line, too_many_line, overflow_cell, yes_line};
 
 use cayley::Cell;
 use listing_text::write_positions;

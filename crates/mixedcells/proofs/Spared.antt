@@ -38,14 +38,14 @@ use Rattle.cell_certificate.proofs.PlainPoints.{valid_of, own_points}
 use Rattle.cell_certificate.proofs.Together.{pairs_map}
 use Rattle.cell_certificate.proofs.WorkedSums.{entries_fit}
 use Rattle.cell_certificate.proofs.WrittenLines.{written_spared}
-use Rattle.mixedcells_cli.specs.declared.outcome.Outcome.{Outcome}
-use Rattle.mixedcells_cli.specs.declared.outcome.Outcome.TheVariants as variant
-use Rattle.mixedcells_cli.specs.Outcomes.{status_of}
-use Rattle.mixedcells_cli.specs.Answers.{IsPlainReply, IsListingText, IsCheckReply}
-use Rattle.mixedcells_cli.specs.Runs.{IsWrittenListing, IsSpared}
-use Rattle.mixedcells_cli.proofs.Readings.{ok_once, not_both}
-use Rattle.mixedcells_cli.proofs.Checks.{outcome_of, verdict_answer, read_of, are_listed}
-use Rattle.mixedcells_cli.proofs.Counted.{few_cells}
+use Rattle.mixedcells.specs.declared.outcome.Outcome.{Outcome}
+use Rattle.mixedcells.specs.declared.outcome.Outcome.TheVariants as variant
+use Rattle.mixedcells.specs.Outcomes.{status_of}
+use Rattle.mixedcells.specs.Answers.{IsPlainReply, IsListingText, IsCheckReply}
+use Rattle.mixedcells.specs.Runs.{IsWrittenListing, IsSpared}
+use Rattle.mixedcells.proofs.Readings.{ok_once, not_both}
+use Rattle.mixedcells.proofs.Checks.{outcome_of, verdict_answer, read_of, are_listed}
+use Rattle.mixedcells.proofs.Counted.{few_cells}
 
 -- ---- workings
 

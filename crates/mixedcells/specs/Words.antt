@@ -1,7 +1,7 @@
 -- The meaning of the words after the program's name.
 use Rattle.std.specs.Prelude.{◌≡◌, ℕ, List, [], ◌∷◌, codes}
-use Rattle.mixedcells_cli.specs.declared.words.Command.{Command}
-use Rattle.mixedcells_cli.specs.declared.words.Command.TheVariants.{Plain, Check}
+use Rattle.mixedcells.specs.declared.words.Command.{Command}
+use Rattle.mixedcells.specs.declared.words.Command.TheVariants.{Plain, Check}
 
 -- the words are the command's name and no more
 abbrev pub Means : List (List ℕ) → Command → Type 0

@@ -10,9 +10,9 @@ ghost use Rattle.cell_certificate.specs.Answers.{IsTooLarge};
 ghost use Rattle.cell_certificate.specs.Written.{AreMixed};
 ghost use Rattle.plain_lister.specs.Choices.{HasTooMany};
 ghost use Rattle.plain_lister.specs.Lists.{AllFit};
-ghost use Rattle.mixedcells_cli.specs.Words.{Means, HasMeaning};
-ghost use Rattle.mixedcells_cli.specs.Answers.{IsListingText};
-ghost use Rattle.mixedcells_cli.specs.Runs.{IsInput, IsAnswer, IsCalledFor, IsCutOff, IsFree, IsVerdict, IsWrittenListing, IsSpared, Finishes};
+ghost use Rattle.mixedcells.specs.Words.{Means, HasMeaning};
+ghost use Rattle.mixedcells.specs.Answers.{IsListingText};
+ghost use Rattle.mixedcells.specs.Runs.{IsInput, IsAnswer, IsCalledFor, IsCutOff, IsFree, IsVerdict, IsWrittenListing, IsSpared, Finishes};
 
 use crate::outcome::Outcome;
 use crate::replies::{Reply, answer};

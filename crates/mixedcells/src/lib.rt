@@ -1,0 +1,15 @@
+//! The top call: from the words and the bytes that are read to the bytes that are written.
+#![tactic(auto)]
+
+mod lines;
+mod outcome;
+mod replies;
+mod top;
+mod words;
+
+pub use outcome::Outcome;
+pub use top::run_alone;
+pub use words::Command;
+
+#[cfg(test)]
+mod tests;
