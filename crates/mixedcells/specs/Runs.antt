@@ -1,6 +1,6 @@
 -- How a run ends, and what stands in the source and the sink then.
-use Rattle.std.specs.Prelude.{◌≡◌, ◌⊎◌, ◌<◌, ◌≤◌, ℕ, List, length, take, Option, Some, None, Ok}
-use Rattle.std.specs.Io.KnownBytes.{Appends}
+use Rattle.std.specs.Prelude.{◌≡◌, ◌⊎◌, ◌+◌, ◌<◌, ◌≤◌, ℕ, List, length, take, Option, Some, None, Ok}
+use Rattle.std.specs.Io.KnownBytes.{Appends, Consumes}
 use Rattle.edge_io.specs.Faults.{Rose}
 use Rattle.cayley.specs.Files.{File, plain_problem}
 use Rattle.cayley.specs.declared.found.FoundCell.{FoundCell}
@@ -64,3 +64,11 @@ abbrev pub IsSpared : List ℕ → Outcome → Type 0
 IsSpared bytes outcome = (outcome ≡ variant.Ok)
     ⊎ ((listing : Listing) × (line : ℕ) × IsListingText bytes listing × IsOwnTooLarge listing line × (outcome ≡ variant.OverflowLine line))
     ⊎ ((limit < length bytes) × (outcome ≡ variant.TooLong))
+
+-- how many bytes of the source were taken: at most the limit and one more; exactly that where the input is too long, and at most the limit where a read failed
+pub record TakesNoMore (old new : Option (List ℕ)) (outcome : Outcome) : Type 0 where
+  pub bytes : List ℕ
+  pub taken : Consumes old new bytes
+  pub bound : length bytes ≤ limit + 1
+  pub too_long : outcome ≡ variant.TooLong → length bytes ≡ limit + 1
+  pub read_fault : outcome ≡ variant.ReadFault → length bytes ≤ limit

@@ -12,7 +12,7 @@ ghost use Rattle.plain_lister.specs.Choices.{HasTooMany};
 ghost use Rattle.plain_lister.specs.Lists.{AllFit};
 ghost use Rattle.mixedcells.specs.Words.{Means, HasMeaning};
 ghost use Rattle.mixedcells.specs.Answers.{IsListingText};
-ghost use Rattle.mixedcells.specs.Runs.{IsInput, IsAnswer, IsCalledFor, IsCutOff, IsFree, IsVerdict, IsWrittenListing, IsSpared, Finishes};
+ghost use Rattle.mixedcells.specs.Runs.{IsInput, IsAnswer, IsCalledFor, IsCutOff, IsFree, IsVerdict, IsWrittenListing, IsSpared, Finishes, TakesNoMore};
 
 use crate::outcome::Outcome;
 use crate::replies::{Reply, answer};
@@ -37,7 +37,7 @@ pub fn run_alone<S: Source, K: Sink>(
     // A part of the text that was called for was written, and the sink's count of faults rose.
     ensures cut_off { result ≡ Outcome.WriteFault
         → IsCutOff (IsCalledFor (map string_bytes words.now) (S.left source.old)) (K.held sink.old) (K.held sink.new) (K.faults sink.old) (K.faults sink.new) }
-    ensures silent { (result ≡ Outcome.ReadFault) ⊎ (result ≡ Outcome.OutOfMemory) → Appends (K.held sink.old) (K.held sink.new) [] }
+    ensures silent { (result ≡ Outcome.ReadFault) ⊎ (result ≡ Outcome.OutOfMemory) → sink.new ≡ sink.old }
     // What is called for comes, unless an end fails or there is no memory.
     ensures exact { (bytes : List ℕ) (outcome : Outcome) (text : List ℕ) → S.left source.old ≡ Some bytes
         → IsCalledFor (map string_bytes words.now) (Some bytes) outcome text → (result ≡ outcome) ⊎ IsFree result }
@@ -67,6 +67,8 @@ pub fn run_alone<S: Source, K: Sink>(
     ensures unread { ¬ (HasMeaning (map string_bytes words.now)) → source.new ≡ source.old }
     // Every answer but these two has read the input to its end.
     ensures whole { ¬ (IsFree result) → result ≢ Outcome.Usage → result ≢ Outcome.TooLong → IsAtEnd (S.left source.new) }
+    // At most the limit and one byte of the input is taken: all of that where it is too long, at most the limit where a read failed.
+    ensures taken { TakesNoMore (S.left source.old) (S.left source.new) result }
     ensures source_later { S.faults source.old ≤ S.faults source.new }
     ensures sink_later { K.faults sink.old ≤ K.faults sink.new }
 {
@@ -88,7 +90,8 @@ fn run_command<S: Source, K: Sink>(
         × Appends (K.held sink.old) (K.held sink.new) text }
     ensures cut_off { result ≡ Outcome.WriteFault → (bytes : List ℕ) × IsInput (S.left source.old) bytes
         × IsCutOff (IsAnswer command bytes) (K.held sink.old) (K.held sink.new) (K.faults sink.old) (K.faults sink.new) }
-    ensures silent { (result ≡ Outcome.ReadFault) ⊎ (result ≡ Outcome.OutOfMemory) → Appends (K.held sink.old) (K.held sink.new) [] }
+    ensures silent { (result ≡ Outcome.ReadFault) ⊎ (result ≡ Outcome.OutOfMemory) → sink.new ≡ sink.old }
+    ensures taken { TakesNoMore (S.left source.old) (S.left source.new) result }
     ensures read_fault { result ≡ Outcome.ReadFault → Rose (S.faults source.old) (S.faults source.new) }
     ensures whole { ¬ (IsFree result) → result ≢ Outcome.TooLong → IsAtEnd (S.left source.new) }
     ensures source_later { S.faults source.old ≤ S.faults source.new }
