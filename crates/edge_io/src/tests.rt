@@ -2,6 +2,7 @@ use crate::{
     Failed, MemorySink, MemorySource, ReadStop, StdSink, StdSource, SteadySource, read_all,
     write_all,
 };
+use std::io::{self, ErrorKind, Read, Write};
 use std::test::Fail;
 
 const TEXT: &[u8] = b"mixedcells 1\n";
@@ -81,5 +82,71 @@ fn std_ends_in_memory(rt: HostRuntime) -> Result<(), Fail> {
     assert_eq!(rt; done, Ok(()));
     drop(sink);
     assert_eq!(rt; written.as_slice(), TEXT);
+    Ok(())
+}
+
+// A reader of the text in pieces of four bytes, which fails at its third call.
+#[derive(Drop)]
+struct Breaking {
+    calls: usize,
+}
+
+impl Read for Breaking {
+    fn read(&mut self, buf: &mut [u8]) -> io::Result<usize> {
+        let from = self.calls.saturating_mul(4).min(TEXT.len());
+        self.calls = self.calls.saturating_add(1);
+        if self.calls == 3 {
+            return Err(io::Error::from(ErrorKind::Other));
+        }
+        let count = buf.len().min(4).min(TEXT.len() - from);
+        buf[..count].copy_from_slice(&TEXT[from..from + count]);
+        Ok(count)
+    }
+}
+
+#[test]
+fn a_reader_that_fails_in_mid_stream(rt: HostRuntime) -> Result<(), Fail> {
+    let mut source = StdSource::new(Breaking { calls: 0 });
+    let first = read_all(rt.alloc(), &mut source);
+    assert_eq!(rt; first.err(), Some(ReadStop::Fault));
+    let read = read_all(rt.alloc(), &mut source)?;
+    assert_eq!(rt; read.as_slice(), b"\n".as_slice());
+    Ok(())
+}
+
+// A writer that takes four bytes at a call, whose flush fails at its second call.
+#[derive(Drop)]
+struct Stuck {
+    taken: Vec<u8>,
+    flushes: usize,
+}
+
+impl Write for Stuck {
+    fn write(&mut self, buf: &[u8]) -> io::Result<usize> {
+        let count = buf.len().min(4);
+        self.taken.extend_from_slice(&buf[..count])?;
+        Ok(count)
+    }
+
+    fn flush(&mut self) -> io::Result<()> {
+        self.flushes = self.flushes.saturating_add(1);
+        if self.flushes == 2 {
+            return Err(io::Error::from(ErrorKind::Other));
+        }
+        Ok(())
+    }
+}
+
+#[test]
+fn a_writer_whose_flush_fails(rt: HostRuntime) -> Result<(), Fail> {
+    let mut writer = Stuck {
+        taken: Vec::new(rt.alloc()),
+        flushes: 0,
+    };
+    let mut sink = StdSink::new(&mut writer);
+    let done = write_all(&mut sink, TEXT);
+    assert_eq!(rt; done, Err(Failed));
+    drop(sink);
+    assert_eq!(rt; writer.taken.as_slice(), b"mixedcel".as_slice());
     Ok(())
 }

@@ -1,5 +1,5 @@
 use crate::top::run_alone;
-use edge_io::{MemorySink, MemorySource, SteadySource};
+use edge_io::{MemorySink, MemorySource, SteadySource, read_all};
 use std::alloc::Global;
 use std::test::Fail;
 
@@ -9,6 +9,14 @@ const SEGMENT: &[u8] = b"mixedcells 1\ndim 1\nsupport 2\n0 : 0\n2 : 1\nend\n";
 
 const SQUARES: &[u8] =
     b"mixedcells 1\ndim 2\nsupport 4\n0 0 : 3\n1 0 : 10\n0 1 : 20\n1 1 : 90\nsupport 4\n0 0 : 5\n1 0 : 40\n0 1 : 9\n1 1 : 1\nend\n";
+
+// The same, moved by (-3, 2).
+const MOVED_SQUARES: &[u8] =
+    b"mixedcells 1\ndim 2\nsupport 4\n-3 2 : 3\n-2 2 : 10\n-3 3 : 20\n-2 3 : 90\nsupport 4\n-3 2 : 5\n-2 2 : 40\n-3 3 : 9\n-2 3 : 1\nend\n";
+
+// Sixteen supports of the origin alone.
+const SIXTEEN_ORIGINS: &[u8] =
+    b"mixedcells 1\ndim 16\nsupport 1\n0 0 0 0 0 0 0 0 0 0 0 0 0 0 0 0 : 0\nsupport 1\n0 0 0 0 0 0 0 0 0 0 0 0 0 0 0 0 : 0\nsupport 1\n0 0 0 0 0 0 0 0 0 0 0 0 0 0 0 0 : 0\nsupport 1\n0 0 0 0 0 0 0 0 0 0 0 0 0 0 0 0 : 0\nsupport 1\n0 0 0 0 0 0 0 0 0 0 0 0 0 0 0 0 : 0\nsupport 1\n0 0 0 0 0 0 0 0 0 0 0 0 0 0 0 0 : 0\nsupport 1\n0 0 0 0 0 0 0 0 0 0 0 0 0 0 0 0 : 0\nsupport 1\n0 0 0 0 0 0 0 0 0 0 0 0 0 0 0 0 : 0\nsupport 1\n0 0 0 0 0 0 0 0 0 0 0 0 0 0 0 0 : 0\nsupport 1\n0 0 0 0 0 0 0 0 0 0 0 0 0 0 0 0 : 0\nsupport 1\n0 0 0 0 0 0 0 0 0 0 0 0 0 0 0 0 : 0\nsupport 1\n0 0 0 0 0 0 0 0 0 0 0 0 0 0 0 0 : 0\nsupport 1\n0 0 0 0 0 0 0 0 0 0 0 0 0 0 0 0 : 0\nsupport 1\n0 0 0 0 0 0 0 0 0 0 0 0 0 0 0 0 : 0\nsupport 1\n0 0 0 0 0 0 0 0 0 0 0 0 0 0 0 0 : 0\nsupport 1\n0 0 0 0 0 0 0 0 0 0 0 0 0 0 0 0 : 0\nend\n";
 
 // One word.
 fn word(alloc: Global, text: &str) -> Result<Vec<String>, Fail> {
@@ -31,7 +39,7 @@ fn run(alloc: Global, text: &str, input: &[u8]) -> Result<(u8, Vec<u8>), Fail> {
 
 #[test]
 fn listings_of_small_files(rt: HostRuntime) -> Result<(), Fail> {
-    let rows: [(&[u8], &[u8]); 8] = [
+    let rows: [(&[u8], &[u8]); 10] = [
         (
             THREE_POINTS,
             b"cells 2\ncell 1 2 : 2 / 1\ncell 2 3 : -1 / 1\nend\n",
@@ -61,6 +69,11 @@ fn listings_of_small_files(rt: HostRuntime) -> Result<(), Fail> {
             b"mixedcells 1\ndim 1\nsupport 2\n0 : 0\n1000000 : 1\nend\n",
             b"cells 1\ncell 1 2 : -1 / 1000000\nend\n",
         ),
+        (
+            MOVED_SQUARES,
+            b"cells 2\ncell 1 2 1 4 : -7 11 / 1\ncell 1 3 3 4 : 8 -17 / 1\nend\n",
+        ),
+        (SIXTEEN_ORIGINS, b"cells 0\nend\n"),
     ];
     for (file, cells) in rows {
         let (status, written) = run(rt.alloc(), "plain", file)?;
@@ -146,6 +159,29 @@ fn seven_long_edges_overflow(rt: HostRuntime) -> Result<(), Fail> {
     Ok(())
 }
 
+// Two supports of 46 points on one line each, so 1,035 pairs each.
+fn many_choices(alloc: Global) -> Result<Vec<u8>, Fail> {
+    let mut text = b"mixedcells 1\ndim 2\n".to_vec(alloc)?;
+    for _support in 0..2 {
+        text.extend_from_slice(b"support 46\n")?;
+        for place in 0..46 {
+            let line = format!(in alloc; "{place} 0 : 0\n")?;
+            text.extend_from_slice(line.as_bytes())?;
+        }
+    }
+    text.extend_from_slice(b"end\n")?;
+    Ok(text)
+}
+
+#[test]
+fn too_many_choices(rt: HostRuntime) -> Result<(), Fail> {
+    let input = many_choices(rt.alloc())?;
+    let (status, written) = run(rt.alloc(), "plain", &input)?;
+    assert_eq!(rt; status, 10);
+    assert_eq!(rt; written.as_slice(), b"too many: 1071225\n".as_slice());
+    Ok(())
+}
+
 #[test]
 fn words_without_a_meaning_read_nothing(rt: HostRuntime) -> Result<(), Fail> {
     let words = Vec::new(rt.alloc());
@@ -156,6 +192,8 @@ fn words_without_a_meaning_read_nothing(rt: HostRuntime) -> Result<(), Fail> {
     let outcome = run_alone(rt.alloc(), &words, &mut source, &mut sink);
     assert_eq!(rt; outcome.status(), 2);
     assert_eq!(rt; sink.bytes(), b"usage\n".as_slice());
+    let left = read_all(rt.alloc(), &mut source)?;
+    assert_eq!(rt; left.as_slice(), SEGMENT);
     Ok(())
 }
 
