@@ -13,7 +13,7 @@ dot_between_unchecked-alpha-requires-clause-fits c =
     let fs : FitsSigned w128 c.wide_scaled-start.result = search rules in
     let r : c.base_difference.result ≡ c.args.c.now.base -ℤ c.args.a.now.base = simp to_z-of_z at c.base_difference.ensures.value in
     let s : c.wide_scaled-start.result ≡ c.args.normal.now.den *ℤ c.base_difference.result = simp to_z-of_z at c.wide_scaled-start.ensures in
-    simp to_z-of_z (rw (s, r, c.as_slice-3.ensures.value, c.as_slice-from.ensures.value, c.as_slice-to.ensures.value) (room_fits _ (sub c.args.c.now.coords c.args.a.now.coords) c.args.normal.now.p c.requires.alpha))
+    simp to_z-of_z (rw (s, r, c.as_slice.ensures.value, c.as_slice-from.ensures.value, c.as_slice-to.ensures.value) (room_fits _ (sub c.args.c.now.coords c.args.a.now.coords) c.args.normal.now.p c.requires.alpha))
 
 pub dot_between_unchecked-beta-requires-clause-fits : goal.dot_between_unchecked-beta-requires-clause-fits
 dot_between_unchecked-beta-requires-clause-fits c =
@@ -22,4 +22,4 @@ dot_between_unchecked-beta-requires-clause-fits c =
     let fs : FitsSigned w128 c.wide_scaled-other.result = search rules in
     let r : c.speed_difference.result ≡ pos c.args.c.now.speed -ℤ pos c.args.a.now.speed = c.speed_difference.ensures.value in
     let s : c.wide_scaled-other.result ≡ c.args.normal.now.den *ℤ c.speed_difference.result = simp to_z-of_z at c.wide_scaled-other.ensures in
-    simp to_z-of_z (rw (s, r, c.as_slice-4.ensures.value, c.as_slice-from.ensures.value, c.as_slice-to.ensures.value) (room_fits _ (sub c.args.c.now.coords c.args.a.now.coords) c.args.normal.now.q c.requires.beta))
+    simp to_z-of_z (rw (s, r, c.as_slice-2.ensures.value, c.as_slice-from.ensures.value, c.as_slice-to.ensures.value) (room_fits _ (sub c.args.c.now.coords c.args.a.now.coords) c.args.normal.now.q c.requires.beta))
