@@ -51,10 +51,8 @@ fn push_line(
     let Some(made) = line(normal, room, i, a, position, c) else {
         return Err(FromFault::Overflow);
     };
-    match lines.push(made) {
-        Ok(()) => Ok(()),
-        Err(_) => Err(FromFault::OutOfMemory),
-    }
+    lines.push(made)?;
+    Ok(())
 }
 
 // As `push_line`, in 64 bits, against the first point of the pair.
@@ -89,10 +87,8 @@ fn push_narrow_line(
     }
     let c = problem.point(i, position);
     let made = narrow_line_of(normal, copies, i, a, position, c);
-    match lines.push(made) {
-        Ok(()) => Ok(()),
-        Err(_) => Err(FromFault::OutOfMemory),
-    }
+    lines.push(made)?;
+    Ok(())
 }
 
 // As `push_lines`, in 64 bits.
@@ -119,11 +115,7 @@ fn push_narrow_lines(
 {
     let a = problem.point(i, pair.0);
     for index in 0..problem.count(i) {
-        if let Err(fault) =
-            push_narrow_line(lines, problem, normal, copies, i, pair, a, index + 1)
-        {
-            return Err(fault);
-        }
+        push_narrow_line(lines, problem, normal, copies, i, pair, a, index + 1)?;
     }
     Ok(())
 }
@@ -150,9 +142,7 @@ fn push_other_lines(
     ensures fit { All FitsLine lines.new.items }
 {
     for index in 0..problem.count(i) {
-        if let Err(fault) = push_line(lines, problem, normal, room, i, pair, index + 1) {
-            return Err(fault);
-        }
+        push_line(lines, problem, normal, room, i, pair, index + 1)?;
     }
     Ok(())
 }
@@ -211,13 +201,9 @@ fn lines_within(
     ensures fit { IfOk result (λ lines. All FitsLine lines.items) }
 {
     let _dim = problem.dim();
-    let Ok(mut lines) = Vec::with_capacity(alloc, further_points(problem)) else {
-        return Err(FromFault::OutOfMemory);
-    };
+    let mut lines = Vec::with_capacity(alloc, further_points(problem))?;
     for (i, pair) in cell.pairs().iter().enumerate() {
-        if let Err(fault) = push_lines(&mut lines, problem, normal, room, i as u32 + 1, *pair) {
-            return Err(fault);
-        }
+        push_lines(&mut lines, problem, normal, room, i as u32 + 1, *pair)?;
     }
     Ok(lines)
 }
@@ -237,11 +223,6 @@ pub(crate) fn lines_of(
         (IsFromFault (FitsWalls problem.now cell.now normal.now)) }
     ensures fit { IfOk result (λ lines. All FitsLine lines.items) }
 {
-    let Ok(room) = room_of(alloc, problem, normal) else {
-        return Err(FromFault::OutOfMemory);
-    };
-    match lines_within(alloc, problem, cell, normal, &room) {
-        Ok(lines) => Ok(lines),
-        Err(fault) => Err(fault),
-    }
+    let room = room_of(alloc, problem, normal)?;
+    lines_within(alloc, problem, cell, normal, &room)
 }

@@ -1,3 +1,5 @@
 pub mod Workings
 pub mod MovingNormals
 pub mod LowestForms
+pub mod Inverses
+pub mod Coefficients

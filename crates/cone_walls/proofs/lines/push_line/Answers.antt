@@ -35,9 +35,9 @@ line-requires-clause-c_small c =
     let r = c.requires in
     near_narrow _ (near_point c.args.problem.now c.point-c.ensures.valid c.args.i c.args.position r.least r.greatest r.position.0 r.position.1 (point c.point-c.result.now) c.point-c.ensures.value).1
 
-pub returns-in-Ok-clause-fit : goal.returns-in-Ok-clause-fit
-returns-in-Ok-clause-fit c =
-    subst (All FitsLine) (sym c.in-Ok.ensures.items)
+pub returns-clause-fit : goal.returns-clause-fit
+returns-clause-fit c =
+    subst (All FitsLine) (sym c.in_ok-push.ensures.items)
     (All-append FitsLine c.args.lines.now.items (c.in-Some.made ∷ []) c.requires.fit (all_one FitsLine c.in-Some.made c.in-Some.ensures.fits))
 
 pub line-requires-clause-a_high : goal.line-requires-clause-a_high

@@ -37,7 +37,7 @@ narrow_line_of-made-requires-clause-room c =
     (slow_between (point c.point-c.result.now).speed (point c.args.a.now).speed (slow_point c.args.problem.now c.point-c.ensures.valid c.args.i c.args.position r.least r.greatest r.position.0 r.position.1 (point c.point-c.result.now) c.point-c.ensures.value) (slow_point c.args.problem.now c.point-c.ensures.valid c.args.i c.args.pair.0 r.least r.greatest r.pair.0 r.pair.1 (point c.args.a.now) c.requires.first))
     (λ k near. (point_within c.args.problem.now c.point-c.ensures.valid c.args.i c.args.pair.0 r.least r.greatest r.pair.0 r.pair.1 (point c.args.a.now) c.requires.first k near, point_within c.args.problem.now c.point-c.ensures.valid c.args.i c.args.position r.least r.greatest r.position.0 r.position.1 (point c.point-c.result.now) c.point-c.ensures.value k near))
 
-pub returns-in-Ok-clause-fit : goal.returns-in-Ok-clause-fit
-returns-in-Ok-clause-fit c =
-    subst (All FitsLine) (sym c.in-Ok.ensures.items)
+pub returns-clause-fit : goal.returns-clause-fit
+returns-clause-fit c =
+    subst (All FitsLine) (sym c.in_ok-push.ensures.items)
     (All-append FitsLine c.args.lines.now.items (c.narrow_line_of-made.result ∷ []) c.requires.fit (all_one FitsLine c.narrow_line_of-made.result c.narrow_line_of-made.ensures.fits))
