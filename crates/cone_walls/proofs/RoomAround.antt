@@ -3,7 +3,7 @@ use Rattle.std.proofs.Common.{◌≡◌, ◌↔◌, ℕ, zero, suc, ◌+◌, ◌
 use Rattle.std.proofs.lemmas.Int.{ints, unsigned_abs-mul}
 use Rattle.wide_int.specs.Whole.{FitsWhole}
 use Rattle.int_vectors.specs.Vectors.{Each, sub, dot}
-use Rattle.int_vectors.specs.Fits.{FitsDot}
+use Rattle.int_vectors.specs.Fits.{FitsDot, FitsSum}
 use Rattle.int_vectors.specs.Bounds.{size, Within, Room, IsNarrow}
 use Rattle.int_vectors.proofs.BoundSums.{abs_add, abs_sub, abs_dot, mul_le, room_fits}
 use Rattle.int_vectors.proofs.BoundRows.{within_weaker}
@@ -16,7 +16,7 @@ use Rattle.inner_normal.specs.declared.moving.MovingNormal.{MovingNormal}
 use Rattle.cone_walls.specs.Rooms.{IsNarrowRoom, IsWideRoom, HasRoom, IsRoomOf, IsRoomAt, IsNarrowOf}
 use Rattle.cone_walls.specs.declared.rooms.Room.TheVariants as room
 use Rattle.cone_walls.specs.declared.rooms.Room as declared
-use Rattle.cone_walls.specs.Numbers.{alpha, beta, FitsSum, FitsWall}
+use Rattle.cone_walls.specs.Numbers.{alpha, beta, FitsWall}
 use Rattle.cone_walls.specs.Listed.{line_of}
 use Rattle.crossing.specs.Lines.{FitsLine}
 use Rattle.crossing.specs.declared.line.WallLine.{WallLine}

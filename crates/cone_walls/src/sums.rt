@@ -2,13 +2,13 @@ ghost use Rattle.std.specs.Prelude.{◌≡◌, ◌<◌, ◌^◌, unsigned_abs, �
 ghost use Rattle.wide_int.specs.Whole.{FitsWhole};
 ghost use Rattle.int_vectors.specs.Bounds as bounds;
 ghost use Rattle.int_vectors.specs.Bounds.{IsNarrow};
-ghost use Rattle.int_vectors.specs.Fits.{FitsDot};
+ghost use Rattle.int_vectors.specs.Fits.{FitsDot, FitsSum};
 ghost use Rattle.int_vectors.specs.Vectors.{Each, sub, dot};
 ghost use Rattle.cayley.specs.Stored.{point};
 ghost use Rattle.cayley.specs.Valid.{IsHeight};
 ghost use Rattle.crossing.specs.Lines.{FitsLine};
 ghost use Rattle.cone_walls.specs.Listed as listed;
-ghost use Rattle.cone_walls.specs.Numbers.{FitsSum, FitsWall};
+ghost use Rattle.cone_walls.specs.Numbers.{FitsWall};
 ghost use Rattle.cone_walls.specs.Rooms.{IsRoomAt, AreCopies, HasRoom};
 
 use crate::rooms::{Copies, Room};

@@ -3,3 +3,4 @@ pub mod MovingNormals
 pub mod LowestForms
 pub mod Inverses
 pub mod Coefficients
+pub mod LeastDenominators

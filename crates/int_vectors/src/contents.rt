@@ -83,6 +83,7 @@ pub(crate) fn divide_entries(entries: &mut [i128], g: i128)
 pub(crate) fn make_primitive(entries: &mut [i128])
     requires { AllFit entries.old }
     ensures value { entries.new ≡ contents.primitive entries.old }
+    ensures divided { entries.old ≡ scale (pos (contents.content entries.old)) entries.new }
     ensures fits { AllFit entries.new }
 {
     let g = content(entries);

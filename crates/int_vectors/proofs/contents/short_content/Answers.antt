@@ -1,7 +1,8 @@
 use Rattle.std.proofs.Common.{◌≡◌, ◌+◌, sym, subst, pos, get_or, take, unsigned_abs, arith, rules, FitsSigned, to_z-of_z, take_all}
 use Rattle.std.specs.Int.{w128, IsGcd}
 use Rattle.std.proofs.lemmas.Nat.Gcd.{IsGcd-swap}
-use Rattle.int_vectors.proofs.EntryDivisors.{IsContent, content_more, content_one, same_content}
+use Rattle.int_vectors.specs.Contents.{IsContent}
+use Rattle.int_vectors.proofs.EntryDivisors.{content_more, content_one, same_content}
 use Rattle.int_vectors.proofs.contents.short_content.Goals as goal
 
 pub returns-then-g-eq1 : goal.returns-then-g-eq1

@@ -1,6 +1,7 @@
 use Rattle.std.proofs.Common.{◌≡◌, ◌+◌, ◌∙◌, sym, ap, subst, pos, get_or, take, unsigned_abs, arith, rules, FitsSigned, to_z, to_z-of_z, take_all}
 use Rattle.std.specs.Int.{w128}
-use Rattle.int_vectors.proofs.EntryDivisors.{IsContent, content_more, content_one, same_content}
+use Rattle.int_vectors.specs.Contents.{IsContent}
+use Rattle.int_vectors.proofs.EntryDivisors.{content_more, content_one, same_content}
 use Rattle.int_vectors.proofs.Fitting.{fits_entry}
 use Rattle.wide_int.proofs.Signed.{as_pos, nonneg_fits}
 use Rattle.int_vectors.proofs.contents.wide_content.Goals as goal

@@ -1,6 +1,6 @@
 use Rattle.std.proofs.Common.{pos, ◌≤ℤ◌, take, unsigned_abs}
 use Rattle.wide_int.specs.Whole.{FitsWhole}
-use Rattle.int_vectors.proofs.EntryDivisors.{IsContent}
+use Rattle.int_vectors.specs.Contents.{IsContent}
 use Rattle.int_vectors.proofs.contents.wide_content.Given as goal
 
 abbrev pub invariant-loop-x : goal.invariant-loop-x
