@@ -57,14 +57,20 @@ wide_sum d h p s n w x y e z l k =
 
 module _ (den h : ℤ) (c a v : List ℤ) (la : length a ≡ length v) (lc : length c ≡ length v) (short : length v ≤ 16) (high : unsigned_abs h ≤ 2000000000) (w : ℕ) (within : Within w v) where
   pub narrow_room : (r : ℕ) → Within r c → Within r a → IsNarrowRoom den w r → Room (2 ^ 62) (den *ℤ h) (sub c a) v
-  narrow_room r p q k =
-      (w, within, narrow_sum (unsigned_abs den) (unsigned_abs h) (unsigned_abs (den *ℤ h)) (size (sub c a)) (length c) r w k.0 high (unsigned_abs-mul den h)
-      (size_between r c a p q (lc ∙ sym la)) (omega (arith, lc, short)) k.2)
+  narrow_room r p q k = (
+    w,
+    within,
+    narrow_sum (unsigned_abs den) (unsigned_abs h) (unsigned_abs (den *ℤ h)) (size (sub c a)) (length c) r w k.0 high (unsigned_abs-mul den h)
+        (size_between r c a p q (lc ∙ sym la)) (omega (arith, lc, short)) k.2,
+  )
 
   pub wide_room : Each c IsCornerCoordinate → Each a IsCornerCoordinate → IsWideRoom den w → Room (2 ^ 127) (den *ℤ h) (sub c a) v
-  wide_room p q k =
-      (w, within, wide_sum (unsigned_abs den) (unsigned_abs h) (unsigned_abs (den *ℤ h)) (size (sub c a)) (length c) w k.0 high (unsigned_abs-mul den h)
-      (size_between 33000000 c a (near_within c p) (near_within a q) (lc ∙ sym la)) (omega (arith, lc, short)) k.1)
+  wide_room p q k = (
+    w,
+    within,
+    wide_sum (unsigned_abs den) (unsigned_abs h) (unsigned_abs (den *ℤ h)) (size (sub c a)) (length c) w k.0 high (unsigned_abs-mul den h)
+        (size_between 33000000 c a (near_within c p) (near_within a q) (lc ∙ sym la)) (omega (arith, lc, short)) k.1,
+  )
 
 -- ---- what room gives
 pub wider : (start : ℤ) (xs ys : List ℤ) → Room (2 ^ 62) start xs ys → Room (2 ^ 127) start xs ys
@@ -164,10 +170,13 @@ narrow_at p m a c (w, n, wp, wq, reach, k) la lc lq short ha hc hs near = (
 pub room_at : (p : Problem) (m : MovingNormal) (r : declared.Room) (a c : Point) → IsRoomOf p m r → length a.coordinates ≡ length m.p → length c.coordinates ≡ length m.p → length m.q ≡ length m.p → length m.p ≤ 16
     → Each a.coordinates IsCornerCoordinate → Each c.coordinates IsCornerCoordinate → IsHeight a.base → IsHeight c.base → unsigned_abs (c.speed -ℤ a.speed) ≤ 2000000000
     → ((n : ℕ) → IsWithinReach n p → Within n a.coordinates × Within n c.coordinates) → IsRoomAt m a c r
-room_at p m (room.Narrow copies) a c (same, (w, n, wp, wq, reach, k)) la lc lq short na nc ha hc hs near = (same, (
-  narrow_room m.den (c.base -ℤ a.base) c.coordinates a.coordinates m.p la lc short (high_between c.base a.base hc ha) w wp n (near n reach).1 (near n reach).0 k,
-  narrow_room m.den (c.speed -ℤ a.speed) c.coordinates a.coordinates m.q (la ∙ sym lq) (lc ∙ sym lq) (omega (arith, lq, short)) hs w wq n (near n reach).1 (near n reach).0 k,
-))
+room_at p m (room.Narrow copies) a c (same, (w, n, wp, wq, reach, k)) la lc lq short na nc ha hc hs near = (
+  same,
+  (
+    narrow_room m.den (c.base -ℤ a.base) c.coordinates a.coordinates m.p la lc short (high_between c.base a.base hc ha) w wp n (near n reach).1 (near n reach).0 k,
+    narrow_room m.den (c.speed -ℤ a.speed) c.coordinates a.coordinates m.q (la ∙ sym lq) (lc ∙ sym lq) (omega (arith, lq, short)) hs w wq n (near n reach).1 (near n reach).0 k,
+  ),
+)
 room_at p m room.Wide a c (w, wp, wq, k) la lc lq short na nc ha hc hs near = (
   wide_room m.den (c.base -ℤ a.base) c.coordinates a.coordinates m.p la lc short (high_between c.base a.base hc ha) w wp nc na k,
   wide_room m.den (c.speed -ℤ a.speed) c.coordinates a.coordinates m.q (la ∙ sym lq) (lc ∙ sym lq) (omega (arith, lq, short)) hs w wq nc na k,

@@ -179,13 +179,7 @@ fn wide_scaled(den: i128, h: i128) -> i128
 }
 
 // The line of point `c`, by numbers of 128 bits, where a bound shows that they fit.
-fn wide_line(
-    normal: &MovingNormal,
-    i: u32,
-    a: &Point,
-    position: u32,
-    c: &Point,
-) -> WallLine
+fn wide_line(normal: &MovingNormal, i: u32, a: &Point, position: u32, c: &Point) -> WallLine
     requires p_lengths { (length a.now.coords ≡ length normal.now.p) × (length c.now.coords ≡ length normal.now.p) }
     requires q_length { length normal.now.q ≡ length normal.now.p }
     requires a_small { Each a.now.coords IsNarrow }

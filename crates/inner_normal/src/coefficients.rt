@@ -89,8 +89,7 @@ pub(crate) fn coefficients(
         (λ made. fits × (made.items ≡ coefficients_from 0 place den ms) × AllFit made.items)
         (IsFromFault fits) }
 {
-    let mut made =
-        Vec::with_capacity(alloc, columns.len().saturating_mul(2).saturating_add(1))?;
+    let mut made = Vec::with_capacity(alloc, columns.len().saturating_mul(2).saturating_add(1))?;
     for (i, column) in columns.iter().enumerate() {
         let Some(pair) = pair_of(c, a, column.as_slice(), bounded, i, place, den) else {
             return Err(FromFault::Overflow);

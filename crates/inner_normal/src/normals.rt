@@ -60,11 +60,7 @@ pub fn normal_from(alloc: Global, reduced: &Reduced) -> Result<MovingNormal, Fro
 }
 
 // The normal by one elimination.
-fn normal_of_rows(
-    alloc: Global,
-    problem: &Problem,
-    cell: &Cell,
-) -> Result<MovingNormal, CellFault>
+fn normal_of_rows(alloc: Global, problem: &Problem, cell: &Cell) -> Result<MovingNormal, CellFault>
     requires { IsOf problem.now cell.now }
     ensures { MatchResult result
         (IsNormalOfRows problem.now cell.now)
