@@ -2,3 +2,4 @@
 pub mod Each
 pub mod Pairs
 pub mod Supports
+pub mod Reaching

@@ -22,3 +22,4 @@ pub mod Computed
 pub mod Begins
 pub mod Shapes
 pub mod Resting
+pub mod Reaches

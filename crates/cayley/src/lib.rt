@@ -12,6 +12,7 @@ mod points;
 mod positions;
 mod problem_shapes;
 mod problems;
+mod reaches;
 mod rows;
 mod shapes;
 

@@ -3,6 +3,7 @@ ghost use Rattle.std.specs.List.{All};
 ghost use Rattle.cayley.specs.Cells.{IsOf};
 ghost use Rattle.cayley.specs.Files.{plain_problem};
 ghost use Rattle.cayley.specs.Problems.{point_at};
+ghost use Rattle.cayley.specs.Reaches.{IsWithinReach};
 ghost use Rattle.cayley.specs.Rows.{edge_row, edge_rows};
 ghost use Rattle.cayley.specs.Shapes.{IsProblemFault};
 ghost use Rattle.cayley.specs.Stored.{point, problem_of};
@@ -15,6 +16,7 @@ use crate::plain::resting_supports;
 use crate::points::{Point, Support};
 use crate::positions::has_positions;
 use crate::problem_shapes::check_problem;
+use crate::reaches::farthest;
 use crate::rows::{pair_row, rows_of};
 use int_vectors::IntVec;
 use std::alloc::Global;
@@ -30,10 +32,13 @@ use wide_int::OutOfMemory;
 pub struct Problem {
     dim: usize,
     supports: Vec<Support>,
+    reach: u128,
 }
 
 impl Model for Problem {
+    ghost use Rattle.std.specs.List.{All};
     ghost use Rattle.cayley.specs.Problems.{Problem};
+    ghost use Rattle.cayley.specs.Reaches.{IsStoredReach};
     ghost use Rattle.cayley.specs.Stored.{problem_of};
     ghost use Rattle.cayley.specs.Valid.{IsValidProblem};
 
@@ -41,7 +46,7 @@ impl Model for Problem {
 
     ghost view = { λ p. problem_of p.dim p.supports.items };
 
-    ghost invariant = { λ p. IsValidProblem (problem_of p.dim p.supports.items) };
+    ghost invariant = { λ p. IsValidProblem (problem_of p.dim p.supports.items) × All (IsStoredReach p.reach) p.supports.items };
 }
 
 impl Problem {
@@ -58,7 +63,12 @@ impl Problem {
         ensures { let given = problem_of dim supports.items in MatchResult result (λ p. IsValidProblem given × (p ≡ given)) (IsProblemFault given) }
     {
         check_problem(alloc, dim, &supports)?;
-        Ok(Problem { dim, supports })
+        let reach = farthest(&supports);
+        Ok(Problem {
+            dim,
+            supports,
+            reach,
+        })
     }
 
     /// The problem of the file's points alone.
@@ -66,9 +76,11 @@ impl Problem {
         ensures { IfOk result (λ p. p ≡ plain_problem file.now) }
     {
         let supports = resting_supports(alloc, file.supports())?;
+        let reach = farthest(&supports);
         Ok(Problem {
             dim: file.dim(),
             supports,
+            reach,
         })
     }
 
@@ -78,6 +90,13 @@ impl Problem {
         ensures valid { IsValidProblem self.now }
     {
         self.dim
+    }
+
+    /// A bound on the absolute values of all coordinates.
+    pub fn reach(&self) -> u128
+        ensures { IsWithinReach result self.now }
+    {
+        self.reach
     }
 
     /// The number of points of support i, counted from 1.

@@ -1,10 +1,8 @@
-pub mod Near
 pub mod Rising
 pub mod Positions
 pub mod Turns
 pub mod Together
 pub mod Supports
-pub mod EdgeRows
 pub mod Coprime
 pub mod Levels
 pub mod Verdicts

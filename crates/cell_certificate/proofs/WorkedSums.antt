@@ -21,8 +21,8 @@ use Rattle.cayley.specs.Rows.{edge_rows}
 use Rattle.cayley.proofs.OneCell.OneNormal.{same_values}
 use Rattle.cell_certificate.specs.Sums.{FitsRise, FitsAt, FitsFurther}
 use Rattle.cell_certificate.specs.Tests.{IsLevelAt}
-use Rattle.cell_certificate.specs.Written.{FitsWorking}
-use Rattle.cell_certificate.proofs.EdgeRows.{rows_lengths, kernel_denies}
+use Rattle.cell_certificate.specs.Written.{FitsWritten}
+use Rattle.inner_normal.proofs.CellAnswers.{rows_lengths, cell_kernel, kernel_dependent}
 use Rattle.cell_certificate.proofs.Levels.{HasNoRanks, level_to}
 use Rattle.cell_certificate.proofs.MixedLines.{first_entries}
 use Rattle.cell_certificate.proofs.Multiples.{divides_whole, multiple_is, less_fits, rise_less}
@@ -129,13 +129,13 @@ module _ (p : Problem) (cell : Cell) (well : IsProblem p) (even : HasNoRanks p.s
         pairs_map p.supports cell (λ s a b. (c : ℕ) → FitsAt (pos l) ps s a b c) (λ s a b. (c : ℕ) → FitsAt (pos d) v s a b c) f
         (λ s a b g c u. rise_less d j v (point_at s a) (point_at s c) j_up (subst₂ (λ n xs. FitsRise (pos n) xs (point_at s a) (point_at s c)) l_is e (g c u)))
 
-  by_result : (r : Result (List (List ℤ)) (List ℤ)) → elimination p.dimension (edge_rows p cell) ≡ r → FitsWorking p cell → FitsFurther p cell v (pos d)
+  by_result : (r : Result (List (List ℤ)) (List ℤ)) → elimination p.dimension (edge_rows p cell) ≡ r → FitsWritten p cell → FitsFurther p cell v (pos d)
   by_result (Ok made) e w =
       let m = rows_lengths p cell well of in
       reduced_further made (reduced_means p.dimension m.0 (edge_rows p cell) made (rows_count p cell well of) m.2 e) (w.1 made e)
   by_result (Err kernel) e w =
       let m = rows_lengths p cell well of in
-      absurd (kernel_denies p cell well of kernel (kernel_means_it p.dimension m.0 (edge_rows p cell) kernel (rows_count p cell well of) m.2 e) ind)
+      absurd (kernel_dependent p cell kernel (cell_kernel p cell kernel well of (kernel_means_it p.dimension m.0 (edge_rows p cell) kernel (rows_count p cell well of) m.2 e)) ind)
 
   entries_by_result : (r : Result (List (List ℤ)) (List ℤ)) → elimination p.dimension (edge_rows p cell) ≡ r
       → ((made : List (List ℤ)) → elimination p.dimension (edge_rows p cell) ≡ Ok made → FitsNumbers p.dimension made) → FitsWhole (pos d) × Each v FitsWhole
@@ -144,16 +144,16 @@ module _ (p : Problem) (cell : Cell) (well : IsProblem p) (even : HasNoRanks p.s
       reduced_entries made (reduced_means p.dimension m.0 (edge_rows p cell) made (rows_count p cell well of) m.2 e) (f made e)
   entries_by_result (Err kernel) e f =
       let m = rows_lengths p cell well of in
-      absurd (kernel_denies p cell well of kernel (kernel_means_it p.dimension m.0 (edge_rows p cell) kernel (rows_count p cell well of) m.2 e) ind)
+      absurd (kernel_dependent p cell kernel (cell_kernel p cell kernel well of (kernel_means_it p.dimension m.0 (edge_rows p cell) kernel (rows_count p cell well of) m.2 e)) ind)
 
   natural_entries : ((made : List (List ℤ)) → elimination p.dimension (edge_rows p cell) ≡ Ok made → FitsNumbers p.dimension made) → FitsWhole (pos d) × Each v FitsWhole
   natural_entries f = entries_by_result (elimination p.dimension (edge_rows p cell)) refl f
 
-  natural_further : FitsWorking p cell → FitsFurther p cell v (pos d)
+  natural_further : FitsWritten p cell → FitsFurther p cell v (pos d)
   natural_further w = by_result (elimination p.dimension (edge_rows p cell)) refl w
 
 pub further_fits : (p : Problem) (cell : Cell) → IsProblem p → HasNoRanks p.supports → IsOf p cell → IsIndependent p cell
-    → (den : ℤ) (v : List ℤ) → length v ≡ p.dimension → pos 0 <ℤ den → IsCoprime (den ∷ v) → IsLevelAt p cell v den → FitsWorking p cell → FitsFurther p cell v den
+    → (den : ℤ) (v : List ℤ) → length v ≡ p.dimension → pos 0 <ℤ den → IsCoprime (den ∷ v) → IsLevelAt p cell v den → FitsWritten p cell → FitsFurther p cell v den
 further_fits p cell well even of ind (pos d) v long h coprime level w = natural_further p cell well even of ind d v long (omega (arith, ints, h)) coprime level w
 further_fits p cell well even of ind (negsuc d) v long h coprime level w = absurd (omega (arith, ints, h))
 

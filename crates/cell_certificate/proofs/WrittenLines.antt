@@ -19,7 +19,7 @@ use Rattle.cell_certificate.specs.Judgements.{IsJudged, FirstRefused, FitsRows, 
 use Rattle.cell_certificate.specs.Tests.{Follows}
 use Rattle.cell_certificate.specs.Sums.{FitsOwn, FitsFurther}
 use Rattle.cell_certificate.specs.Answers.{Answer, IsAnswer, WrongAt, TooLargeAt, reason_of}
-use Rattle.cell_certificate.specs.Written.{IsListed, AreListed, IsWritten, FitsWorking, SparesWritten}
+use Rattle.cell_certificate.specs.Written.{IsListed, AreListed, IsWritten, FitsWritten, SparesWritten}
 use Rattle.cell_certificate.proofs.Levels.{even_of}
 use Rattle.cell_certificate.proofs.LowestLevel.{lowest_level}
 use Rattle.cell_certificate.proofs.PlainPoints.{valid_of, own_points}
@@ -42,7 +42,7 @@ Starts before (x ∷ lines) = Follows before x.cell
 
 module _ (file : File) (valid : IsValidFile file) where
   line_right : (x : ListedCell) → IsListed (plain_problem file) x → IsMixedCell (plain_problem file) x.cell → IsLowestNormal (plain_problem file) x.cell x.normal.v x.normal.den
-      → FitsWorking (plain_problem file) x.cell → Right (plain_problem file) x
+      → FitsWritten (plain_problem file) x.cell → Right (plain_problem file) x
   line_right x l m n w =
       let p = plain_problem file in
       let well = (valid_of file valid).shape.problem in
@@ -59,7 +59,7 @@ module _ (file : File) (valid : IsValidFile file) where
       }
 
   all_right : (lines : List ListedCell) → Each lines (IsListed (plain_problem file)) → Each lines (λ x. IsMixedCell (plain_problem file) x.cell)
-      → Each lines (λ x. IsLowestNormal (plain_problem file) x.cell x.normal.v x.normal.den) → Each lines (λ x. FitsWorking (plain_problem file) x.cell) → Each lines (Right (plain_problem file))
+      → Each lines (λ x. IsLowestNormal (plain_problem file) x.cell x.normal.v x.normal.den) → Each lines (λ x. FitsWritten (plain_problem file) x.cell) → Each lines (Right (plain_problem file))
   all_right [] l m n w = tt
   all_right (x ∷ lines) l m n w = (line_right x l.0 m.0 n.0 w.0, all_right lines l.1 m.1 n.1 w.1)
 

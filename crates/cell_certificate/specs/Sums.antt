@@ -1,15 +1,14 @@
 -- The sums that tell a normal v over den: which point lies above, level or below, and which of their numbers fit.
-use Rattle.std.specs.Prelude.{List, ℕ, ℤ, pos, ◌<ℤ◌, ◌+ℤ◌, ◌*ℤ◌, ◌-ℤ◌}
-use Rattle.wide_int.specs.Whole.{FitsWhole}
-use Rattle.int_vectors.specs.Fits.{FitsDot}
-use Rattle.int_vectors.specs.Vectors.{sub, dot}
+use Rattle.std.specs.Prelude.{List, ℕ, ℤ, pos, ◌<ℤ◌, ◌*ℤ◌, ◌-ℤ◌}
+use Rattle.int_vectors.specs.Fits.{FitsSum}
+use Rattle.int_vectors.specs.Vectors.{sub}
 use Rattle.cayley.specs.Problems.{Point, Problem, point_at}
 use Rattle.cayley.specs.Cells.{Cell, EachPair, IsFurther}
 use Rattle.cayley.specs.Resting.{rise}
 
 -- each number of the sum for point x against point a fits: the height's part, each product, each partial sum
 abbrev pub FitsRise : ℤ → List ℤ → Point → Point → Type 0
-FitsRise den v a x = FitsWhole (den *ℤ (x.base -ℤ a.base)) × FitsDot (den *ℤ (x.base -ℤ a.base)) (sub x.coordinates a.coordinates) v
+FitsRise den v a x = FitsSum (den *ℤ (x.base -ℤ a.base)) (sub x.coordinates a.coordinates) v
 
 -- of one support: the sum of a further point c fits, and is positive
 abbrev pub FitsAt : ℤ → List ℤ → List Point → ℕ → ℕ → ℕ → Type 0

@@ -30,15 +30,15 @@ pub record AreMixed (listing : Listing) : Type 0 where
   pub normals : Each listing.cells.items (λ x. IsLowestNormal (plain_problem listing.file) x.cell x.normal.v x.normal.den)
 
 -- the elimination of the cell fits, and so do the sums of its further points under the normal that it gives
-abbrev pub FitsWorking : Problem → Cell → Type 0
-FitsWorking p cell = FitsElimination p.dimension (edge_rows p cell)
+abbrev pub FitsWritten : Problem → Cell → Type 0
+FitsWritten p cell = FitsElimination p.dimension (edge_rows p cell)
     × ((made : List (List ℤ)) → elimination p.dimension (edge_rows p cell) ≡ Ok made
     → FitsFurther p cell (shares p.dimension 0 (lcm_from 0 1 made) made) (pos (lcm_from 0 1 made)))
 
 -- a listing that a lister wrote: it refuses a cell whose working doesn't fit
 pub record IsWritten (listing : Listing) : Type 0 where
   pub mixed : AreMixed listing
-  pub workings : Each listing.cells.items (λ x. FitsWorking (plain_problem listing.file) x.cell)
+  pub workings : Each listing.cells.items (λ x. FitsWritten (plain_problem listing.file) x.cell)
 
 -- the first line that doesn't pass has this number, and the sum of a pair's own second point that doesn't fit
 abbrev pub IsOwnTooLarge : Listing → ℕ → Type 0

@@ -3,7 +3,6 @@ ghost use Rattle.std.specs.Option.{option_map};
 ghost use Rattle.cayley.specs.Cells.{IsOf, IsIndependent};
 ghost use Rattle.cayley.specs.Files.{plain_problem};
 ghost use Rattle.cayley.specs.Mixed.{IsCoprime};
-ghost use Rattle.cayley.specs.Rows.{edge_rows};
 ghost use Rattle.cell_certificate.specs.Judgements.{IsNormalJudged, IsJudged};
 ghost use Rattle.cell_certificate.specs.Ranks.{IsRank};
 ghost use Rattle.cell_certificate.specs.Tests.{Follows};
@@ -13,8 +12,8 @@ use crate::judgement::Judgement;
 use crate::rank::Rank;
 use crate::sides::all_sides;
 use cayley::{Cell, LiftFile, Normal, Problem};
+use inner_normal::{CellFault, Eliminated};
 use listing_text::ListedCell;
-use reduced_rows::{ReduceFault, reduce};
 use std::alloc::Global;
 use std::cmp::Ordering;
 use wide_int::{OutOfMemory, gcd};
@@ -34,12 +33,11 @@ fn rank_of(alloc: Global, problem: &Problem, cell: &Cell) -> Result<Rank, OutOfM
     requires { IsOf problem.now cell.now }
     ensures { IfOk result (λ rank. IsRank problem.now cell.now rank) }
 {
-    let rows = problem.edge_rows(alloc, cell)?;
-    match reduce(alloc, rows, problem.dim()) {
+    match Eliminated::of(alloc, problem, cell) {
         Ok(_) => Ok(Rank::Full),
-        Err(ReduceFault::Dependent { .. }) => Ok(Rank::Less),
-        Err(ReduceFault::Overflow) => Ok(Rank::Unfit),
-        Err(ReduceFault::OutOfMemory) => Err(OutOfMemory),
+        Err(CellFault::Dependent { .. }) => Ok(Rank::Less),
+        Err(CellFault::Overflow) => Ok(Rank::Unfit),
+        Err(CellFault::OutOfMemory) => Err(OutOfMemory),
     }
 }
 

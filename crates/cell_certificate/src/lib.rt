@@ -6,7 +6,6 @@ mod judge;
 mod judgement;
 mod rank;
 mod sides;
-mod sums;
 mod verdict;
 
 pub use checker::check;

@@ -7,8 +7,8 @@ ghost use Rattle.cayley.specs.Resting as resting;
 ghost use Rattle.cell_certificate.specs.Sums.{FitsRise, FitsAt, RisesAt, FitsSums};
 ghost use Rattle.cell_certificate.specs.Written.{IsListed};
 
-use crate::sums::sum_at;
 use cayley::{FilePoint, LiftFile, Normal};
+use int_vectors::dot_between;
 use listing_text::ListedCell;
 use wide_int::product;
 
@@ -46,10 +46,10 @@ fn rise(normal: &Normal, a: &FilePoint, x: &FilePoint) -> Option<i128>
     ensures { SomeIff result (FitsRise normal.now.den normal.now.v (seen a.now) (seen x.now)) (resting.rise normal.now.den normal.now.v (seen a.now) (seen x.now)) }
 {
     let start = product(normal.den, height_above(a, x))?;
-    sum_at(
+    dot_between(
         start,
-        x.coords.as_slice(),
         a.coords.as_slice(),
+        x.coords.as_slice(),
         normal.v.as_slice(),
     )
 }

@@ -1,11 +1,2 @@
-pub mod RowUnits
-pub mod ScaledSums
-pub mod PairNumbers
-pub mod Reading
 pub mod Meaning
-pub mod Faults
-pub mod InverseSteps
-pub mod Near
-pub mod CoefficientSteps
-pub mod Bounded
 pub mod Answered

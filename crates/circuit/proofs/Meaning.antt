@@ -1,125 +1,50 @@
--- what the working's coefficients are: the dependency of the cell and the further point
-use Rattle.std.proofs.Common.{◌≡◌, ℕ, zero, suc, ◌+◌, ◌*◌, ◌<◌, ◌≤◌, List, [], ◌∷◌, length, arith, refl, sym, ap, ap₂, subst, subst₂, ◌∙◌, ◌<ℤ◌, ◌≤ℤ◌}
+-- the dependency of a cell and a further point is its circuit
+use Rattle.std.proofs.Common.{◌≡◌, ℕ, suc, ◌+◌, ◌*◌, ◌<◌, ◌≤◌, List, length, arith, sym, subst, subst₂, ◌∙◌, ◌<ℤ◌, ◌≤ℤ◌}
 use Rattle.std.proofs.lemmas.Int.{ints}
-use Rattle.std.proofs.lemmas.List.{length-map}
-use Rattle.std.proofs.Math.IntN.{ℤ, pos, neg_ℤ}
-use Rattle.int_vectors.specs.Vectors.{Each, sub, scale, dot}
+use Rattle.std.proofs.Math.IntN.{ℤ, pos}
 use Rattle.reduced_rows.specs.CellRefusals.{IsEliminated}
-use Rattle.reduced_rows.specs.Denominators.{lcm_from}
-use Rattle.reduced_rows.specs.Solutions.{scaled_column}
-use Rattle.reduced_rows.specs.Spans.{IsReducedOf}
-use Rattle.reduced_rows.proofs.Outcome.{reduced_means}
-use Rattle.cayley.specs.Problems.{Point, Problem, IsProblem, point_at, HasSamePoints}
-use Rattle.cayley.specs.Cells.{Cell, IsOf}
+use Rattle.cayley.specs.Problems.{Problem, IsProblem, HasSamePoints}
+use Rattle.cayley.specs.Cells.{Cell, IsOf, IsIndependent}
 use Rattle.cayley.specs.Rows.{edge_rows}
-use Rattle.cayley.specs.Dependencies.{support_at, pair_at, IsFurtherAt, IsPositiveDependency}
-use Rattle.cayley.proofs.OneCell.CellRows.{InRange, each_position, long_sub, rows_independent, rows_count, rows_width}
-use Rattle.cayley.proofs.OneCell.OneDependency.{pairs_from, numbers_of_rows, dependency_law}
-use Rattle.cayley.proofs.OneCell.Unperturbed.{point_unranked, support_unranked, same_rows, same_dimension, same_points, same_of, same_well, same_further}
+use Rattle.cayley.specs.Dependencies.{IsFurtherAt, IsPositiveDependency}
+use Rattle.cayley.proofs.OneCell.CellRows.{InRange, rows_independent}
+use Rattle.cayley.proofs.OneCell.OneDependency.{dependency_law}
+use Rattle.cayley.proofs.OneCell.Unperturbed.{same_rows, same_dimension, same_of, same_well, same_further}
+use Rattle.inner_normal.specs.Coefficients.{difference, coefficients_of, numbers_of, last_of}
+use Rattle.inner_normal.specs.Inverses.{Inverse, IsInverseOf}
+use Rattle.inner_normal.proofs.Meaning.{reduced_of}
+use Rattle.inner_normal.proofs.Reading.{cell_long}
 use Rattle.circuit.specs.declared.circuits.Circuit.{Circuit}
-use Rattle.circuit.specs.Circuits.{numbers_of, IsCircuit}
-use Rattle.circuit.specs.Inverses.{Inverse, inverse_of, scaled_columns, IsInverseOf}
-use Rattle.circuit.specs.Workings.{difference, products, coefficients_of, IsCircuitFrom}
-use Rattle.circuit.proofs.PairNumbers.{last-coefficients, length-coefficients, pairs-coefficients}
-use Rattle.circuit.proofs.Reading.{cell_long, pair_range}
-use Rattle.circuit.proofs.ScaledSums.{scaled_dependency}
-
--- what the elimination's answer is
-pub reduced_of : (p : Problem) (cell : Cell) → IsProblem p → IsOf p cell → (made : List (List ℤ)) → IsEliminated p.dimension (edge_rows p cell) made → IsReducedOf p.dimension (edge_rows p cell) made
-reduced_of p cell well of made e = reduced_means p.dimension _ (edge_rows p cell) made (rows_count p cell well of) (rows_width p cell well of) e.1
-
-pub length-columns : (m off l : ℕ) (made : List (List ℤ)) → length (scaled_columns m off l made) ≡ m
-length-columns zero off l made = refl
-length-columns (suc m) off l made = ap suc (length-columns m (suc off) l made)
-
-length-column : (k j l : ℕ) (made : List (List ℤ)) → length (scaled_column k j l made) ≡ length made
-unfolding scaled_column
-length-column k j l [] = refl
-length-column k j l (row ∷ made) = ap suc (length-column k (suc j) l made)
-
-columns_long : (m off l : ℕ) (made : List (List ℤ)) → Each (scaled_columns m off l made) (λ column. length column ≡ length made)
-columns_long zero off l made = tt
-columns_long (suc m) off l made = (length-column off 0 l made, columns_long m (suc off) l made)
-
--- n columns of n numbers
-pub inverse_shape : (p : Problem) (cell : Cell) → IsProblem p → IsOf p cell → (inverse : Inverse) → IsInverseOf p cell inverse
-    → (length inverse.columns ≡ p.dimension) × Each inverse.columns (λ column. length column ≡ p.dimension)
-inverse_shape p cell well of inverse is =
-    let made = is.0 in
-    let count = (reduced_of p cell well of made is.1).count in (
-      ap (λ (i : Inverse). length i.columns) is.2 ∙ length-columns (length made) _ (lcm_from 0 1 made) made ∙ count,
-      subst (λ n. Each inverse.columns (λ column. length column ≡ n)) count (subst (λ (i : Inverse). Each i.columns (λ column. length column ≡ length made)) (sym is.2) (columns_long (length made) _ (lcm_from 0 1 made) made)),
-    )
-
-each_support_at : (P : List Point → Type 0) (supports : List (List Point)) (j : ℕ) → j < length supports → Each supports P → P (support_at supports j)
-each_support_at P [] j l e = absurd (omega (arith, l))
-each_support_at P (s ∷ supports) zero l e = e.0
-each_support_at P (s ∷ supports) (suc j) l e = each_support_at P supports j (omega (arith, l)) e.1
-
-pub length-difference : (p : Problem) (cell : Cell) (j c : ℕ) → IsProblem p → IsOf p cell → j < p.dimension → IsFurtherAt p cell j c → length (difference p cell j c) ≡ p.dimension
-length-difference p cell j c well of below further =
-    let n = p.dimension in
-    let s = support_at p.supports j in
-    let e = well.supports in
-    let k = cell_long p.supports cell InRange of in
-    let range = pair_range p.supports cell j (omega (arith, below, e, k)) of in
-    let points = each_support_at (λ s. Each s (λ (x : Point). length x.coordinates ≡ n)) p.supports j (omega (arith, below, e)) well.points in
-    long_sub n (point_at s c).coordinates (point_at s (pair_at cell j).0).coordinates
-    (each_position (λ x. length x.coordinates ≡ n) s c further.0 further.1 points)
-    (each_position (λ x. length x.coordinates ≡ n) s (pair_at cell j).0 range.0 (omega (arith, range.1, range.2)) points)
+use Rattle.circuit.specs.Circuits.{IsCircuit}
 
 -- of one problem
-pub circuit_means : (p : Problem) (cell : Cell) (j c : ℕ) → IsProblem p → IsOf p cell → j < p.dimension → IsFurtherAt p cell j c → (made : List (List ℤ)) → IsEliminated p.dimension (edge_rows p cell) made
-    → pos 0 <ℤ (inverse_of made).den → (circuit : Circuit) → IsCircuitFrom p cell j c (inverse_of made) circuit → IsCircuit p cell j c circuit
-circuit_means p cell j c well of below further made done positive circuit is =
-    let r = reduced_of p cell well of made done in
-    let d = difference p cell j c in
-    let den = (inverse_of made).den in
-    let columns = (inverse_of made).columns in
-    let ms = products d columns in
-    let count : length ms ≡ length cell = length-map columns (dot d) ∙ length-columns (length made) _ (lcm_from 0 1 made) made ∙ r.count ∙ sym well.supports ∙ sym (cell_long p.supports cell InRange of) in
+circuit_means : (p : Problem) (cell : Cell) (j c : ℕ) → IsProblem p → IsOf p cell → IsIndependent p cell → j < p.dimension → IsFurtherAt p cell j c → (circuit : Circuit) → IsPositiveDependency p cell j c (numbers_of circuit.coefficients)
+    → length circuit.coefficients ≡ 2 * length cell + 1 → circuit.scale ≡ last_of circuit.coefficients → pos 0 <ℤ last_of circuit.coefficients → circuit.support ≡ suc j → IsCircuit p cell j c circuit
+circuit_means p cell j c well of independent below further circuit dependency count scale positive support =
     let bound : suc j ≤ length cell = (let k = cell_long p.supports cell InRange of in let e = well.supports in omega (arith, below, e, k)) in
-    let last = ap (λ xs. (numbers_of xs).last) is.coefficients ∙ last-coefficients 0 j den ms in
-    let same : record { pairs = pairs_from (scale (neg_ℤ (pos 1)) ms) j den cell; last = den } ≡ numbers_of circuit.coefficients =
-    ap₂ (λ (ms : List (ℤ × ℤ)) (g : ℤ). record { pairs = ms; last = g }) (sym (ap (λ xs. (numbers_of xs).pairs) is.coefficients ∙ pairs-coefficients j den ms cell count)) (sym last) in
-    let dependency = subst (IsPositiveDependency p cell j c) same
-    (numbers_of_rows p cell j c well of bound (scale (neg_ℤ (pos 1)) ms) den positive (scaled_dependency p cell well of made r d (length-difference p cell j c well of below further))) in
-    let law = dependency_law p cell j c well of (rows_independent p cell well of r.independent) further in
+    let law = dependency_law p cell j c well of independent further in
     record {
       form = record {
-        count = ap length is.coefficients ∙ length-coefficients 0 j den ms ∙ ap (λ n. 2 * n + 1) count;
-        support = (let e = is.support in omega (arith, e), let e = is.support in omega (arith, e, bound));
-        positive = subst (λ z. pos 1 ≤ℤ z) (sym last) (omega (arith, ints, positive));
+        count = count;
+        support = (omega (arith, support), omega (arith, support, bound));
+        positive = omega (arith, ints, positive);
       };
-      support = is.support;
-      scale = is.scale ∙ sym last;
+      support = support;
+      scale = scale;
       dependency = dependency;
       multiples = λ others e. law.1 (numbers_of circuit.coefficients) others dependency e;
       sides = λ t v n. law.2 (numbers_of circuit.coefficients) dependency t v n;
     }
 
--- the difference has no rank in it
-same_point : (p q : Problem) (j c : ℕ) → HasSamePoints p q → (point_at (support_at p.supports j) c).coordinates ≡ (point_at (support_at q.supports j) c).coordinates
-same_point p q j c e =
-    ap (λ (x : Point). x.coordinates)
-    (sym (point_unranked (support_at p.supports j) c) ∙ ap (λ s. point_at s c) (sym (support_unranked p.supports j) ∙ ap (λ ss. support_at ss j) (same_points p q e) ∙ support_unranked q.supports j)
-    ∙ point_unranked (support_at q.supports j) c)
-
-same_difference : (p q : Problem) (cell : Cell) (j c : ℕ) → HasSamePoints p q → difference p cell j c ≡ difference q cell j c
-same_difference p q cell j c e = ap₂ sub (same_point p q j c e) (same_point p q j (pair_at cell j).0 e)
-
 -- of the problem, and of each that differs in version and ranks alone
-pub circuit_however : (q : Problem) (cell : Cell) (j c : ℕ) → IsProblem q → IsOf q cell → j < q.dimension → IsFurtherAt q cell j c → (inverse : Inverse) → IsInverseOf q cell inverse → pos 0 <ℤ inverse.den
-    → (circuit : Circuit) → IsCircuitFrom q cell j c inverse circuit → (p : Problem) → HasSamePoints p q → IsCircuit p cell j c circuit
-circuit_however q cell j c well of below further inverse is positive circuit made p e =
+pub circuit_however : (q : Problem) (cell : Cell) (j c : ℕ) → IsProblem q → IsOf q cell → j < q.dimension → IsFurtherAt q cell j c → (inverse : Inverse) → IsInverseOf q cell inverse → pos 0 <ℤ inverse.den → (circuit : Circuit)
+    → ((p : Problem) → HasSamePoints p q → IsPositiveDependency p cell j c (numbers_of circuit.coefficients)) → length circuit.coefficients ≡ 2 * length cell + 1 → last_of circuit.coefficients ≡ inverse.den → circuit.scale ≡ inverse.den
+    → circuit.support ≡ suc j → (p : Problem) → HasSamePoints p q → IsCircuit p cell j c circuit
+circuit_however q cell j c well of below further inverse is positive circuit dependency count last scale support p e =
     let back : HasSamePoints q p = sym e in
     let size = same_dimension q p back in
-    circuit_means p cell j c (same_well q p back well) (same_of q p cell back of) (subst (λ n. j < n) size below) (same_further q p cell j c back further) is.0
-    (subst₂ (λ n rows. IsEliminated n rows is.0) size (same_rows q p cell back) is.1)
-    (subst (λ (i : Inverse). pos 0 <ℤ i.den) is.2 positive) circuit
-    (let here = subst (λ (i : Inverse). IsCircuitFrom q cell j c i circuit) is.2 made in
-    record {
-      coefficients = here.coefficients ∙ ap (coefficients_of j (inverse_of is.0)) (same_difference q p cell j c back);
-      scale = here.scale;
-      support = here.support;
-    })
+    let own = same_well q p back well in
+    let its = same_of q p cell back of in
+    let r = reduced_of p cell own its is.0 (subst₂ (λ n rows. IsEliminated n rows is.0) size (same_rows q p cell back) is.1) in
+    circuit_means p cell j c own its (rows_independent p cell own its r.independent) (subst (λ n. j < n) size below) (same_further q p cell j c back further) circuit (dependency p e) count (scale ∙ sym last)
+    (subst (λ z. pos 0 <ℤ z) (sym last) positive) support

@@ -8,23 +8,8 @@ use Rattle.cayley.specs.Cells.{Cell}
 use Rattle.cayley.specs.Normals.{Normal, IsNormal}
 use Rattle.cayley.specs.Dependencies.{Numbers, IsDependencyOf, IsPositiveDependency, IsMultiple}
 use Rattle.cayley.specs.Laws.{Sides}
+use Rattle.inner_normal.specs.Coefficients.{last_of, numbers_of}
 use Rattle.circuit.specs.declared.circuits.Circuit.{Circuit}
-
--- the numbers two by two, without the last of an odd count
-abbrev pub pairs_of : List ℤ → List (ℤ × ℤ)
-pairs_of [] = []
-pairs_of (x ∷ []) = []
-pairs_of (x ∷ y ∷ xs) = (x, y) ∷ pairs_of xs
-
--- the last of an odd count
-abbrev pub last_of : List ℤ → ℤ
-last_of [] = pos 0
-last_of (x ∷ []) = x
-last_of (x ∷ y ∷ xs) = last_of xs
-
--- a list a1, b1, .., an, bn, c as two numbers for each pair and one for the further point
-abbrev pub numbers_of : List ℤ → Numbers
-numbers_of xs = record { pairs = pairs_of xs; last = last_of xs }
 
 -- two coefficients for each of n pairs and one more, the last at least 1, and the support is one of the n
 pub record HasForm (n : ℕ) (circuit : Circuit) : Type 0 where

@@ -1,3 +1,2 @@
-pub mod Inverses
 pub mod Workings
 pub mod Circuits

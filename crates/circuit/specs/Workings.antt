@@ -1,53 +1,18 @@
 -- The working of a circuit: the numbers that follow the elimination of the cell's rows, over unbounded whole numbers.
-use Rattle.std.specs.Prelude.{◌≡◌, ℕ, zero, suc, List, [], ◌∷◌, map, ℤ, pos, ◌-ℤ◌, neg_ℤ}
-use Rattle.wide_int.specs.Whole.{FitsWhole}
-use Rattle.int_vectors.specs.Fits.{FitsDot}
-use Rattle.int_vectors.specs.Vectors.{Each, at, sub, dot}
+use Rattle.std.specs.Prelude.{◌≡◌, ℕ, suc, List, ℤ}
 use Rattle.reduced_rows.specs.CellRefusals.{IsEliminated, FitsBeyond}
-use Rattle.cayley.specs.Problems.{Problem, point_at}
+use Rattle.cayley.specs.Problems.{Problem}
 use Rattle.cayley.specs.Cells.{Cell}
 use Rattle.cayley.specs.Rows.{edge_rows}
-use Rattle.cayley.specs.Dependencies.{support_at, pair_at}
 use Rattle.circuit.specs.declared.circuits.Circuit.{Circuit}
-use Rattle.circuit.specs.Inverses.{Inverse, inverse_of, FitsInverse}
-
--- the further point c of support j less the first point of its pair
-abbrev pub difference : Problem → Cell → ℕ → ℕ → List ℤ
-difference p cell j c = sub (point_at (support_at p.supports j) c).coordinates (point_at (support_at p.supports j) (pair_at cell j).0).coordinates
-
--- the products M_i of the difference and the columns
-abbrev pub products : List ℤ → List (List ℤ) → List ℤ
-products v columns = map (dot v) columns
-
--- m, less den where the two places are one
-abbrev pub less_own : ℕ → ℕ → ℤ → ℤ → ℤ
-less_own zero zero den m = m -ℤ den
-less_own zero (suc j) den m = m
-less_own (suc i) zero den m = m
-less_own (suc i) (suc j) den m = less_own i j den m
-
--- M_i and -M_i for the pairs from place i on, but M_j - den for the first point in support j; then den for the further point
-abbrev pub coefficients_from : ℕ → ℕ → ℤ → List ℤ → List ℤ
-coefficients_from i j den [] = den ∷ []
-coefficients_from i j den (m ∷ ms) = less_own i j den m ∷ neg_ℤ m ∷ coefficients_from (suc i) j den ms
-
--- the numbers of the points a1, b1, .., an, bn, c
-abbrev pub coefficients_of : ℕ → Inverse → List ℤ → List ℤ
-coefficients_of j inverse v = coefficients_from 0 j inverse.den (products v inverse.columns)
-
--- each product of c's difference and a column fits, and so does M_j - den
-abbrev pub FitsCoefficients : ℕ → Inverse → List ℤ → Type 0
-FitsCoefficients j inverse v = Each inverse.columns (FitsDot (pos 0) v) × FitsWhole (at (products v inverse.columns) j -ℤ inverse.den)
+use Rattle.inner_normal.specs.Coefficients.{difference, coefficients_of, FitsCircuit}
+use Rattle.inner_normal.specs.Inverses.{Inverse, inverse_of}
 
 -- the circuit's numbers are those of its working
 pub record IsCircuitFrom (p : Problem) (cell : Cell) (j c : ℕ) (inverse : Inverse) (circuit : Circuit) : Type 0 where
   pub coefficients : circuit.coefficients ≡ coefficients_of j inverse (difference p cell j c)
   pub scale : circuit.scale ≡ inverse.den
   pub support : circuit.support ≡ suc j
-
--- the inverse of the reduced rows and the coefficients fit
-abbrev pub FitsCircuit : Problem → Cell → ℕ → ℕ → List (List ℤ) → Type 0
-FitsCircuit p cell j c made = FitsInverse made × FitsCoefficients j (inverse_of made) (difference p cell j c)
 
 -- the elimination of the cell's rows fits, and where it doesn't end with a kernel the circuit does too
 abbrev pub FitsCircuitWorking : Problem → Cell → ℕ → ℕ → Type 0

@@ -1,7 +1,8 @@
 ghost use Rattle.std.specs.Prelude.{◌≡◌, ◌∷◌, [], ◌-◌, ℕ};
 ghost use Rattle.cayley.specs.Dependencies.{number_at};
 ghost use Rattle.circuit.specs.Circuits as numbers;
-ghost use Rattle.circuit.specs.Circuits.{HasForm, pairs_of};
+ghost use Rattle.circuit.specs.Circuits.{HasForm};
+ghost use Rattle.inner_normal.specs.Coefficients.{pairs_of};
 
 use cayley::Sign;
 use int_vectors::IntVec;

@@ -2,14 +2,11 @@
 #![tactic(auto)]
 
 mod circuits;
-mod coefficients;
-mod inverses;
 mod making;
-mod products;
 
 pub use cayley::Sign;
 pub use circuits::Circuit;
-pub use inverses::ScaledInverse;
+pub use inner_normal::ScaledInverse;
 pub use making::{circuit_from, circuit_of, circuit_with};
 pub use reduced_rows::{CellFault, FromFault};
 

@@ -2,9 +2,9 @@ ghost use Rattle.std.specs.Prelude.{◌-◌, ◌≤◌, IsTrue};
 ghost use Rattle.cayley.specs.Cells.{IsOf};
 ghost use Rattle.cayley.specs.Dependencies.{IsFurtherAt};
 
-use crate::making::reduced_of;
-use crate::{CellFault, ScaledInverse, Sign, circuit_from, circuit_of, circuit_with};
+use crate::{CellFault, Sign, circuit_from, circuit_of, circuit_with};
 use cayley::{Cell, FilePoint, LiftFile, Point, Problem, Support};
+use inner_normal::Eliminated;
 use int_vectors::IntVec;
 use std::alloc::Global;
 use std::test::Fail;
@@ -151,14 +151,15 @@ fn the_same_from_reduced_rows(rt: HostRuntime) -> Result<(), Fail> {
     let cell = cell_of(rt.alloc(), &[(5, 6), (5, 7)])?;
     assert!(rt; is_further(&problem, &cell, 2, 4));
     assert!(rt; problem.dim() == 2);
-    let reduced = reduced_of(rt.alloc(), &problem, &cell)?;
-    let circuit = circuit_from(rt.alloc(), &problem, &cell, &reduced, 2, 4)?;
+    let eliminated = Eliminated::of(rt.alloc(), &problem, &cell)?;
+    let reduced = eliminated.reduced();
+    let circuit = circuit_from(rt.alloc(), &problem, &cell, reduced, 2, 4)?;
     assert_eq!(rt;
         circuit.coefficients.as_slice(),
         [1, -1, -1, -1, 2].as_slice()
     );
     assert_eq!(rt; (circuit.scale, circuit.support), (2, 2));
-    let inverse = ScaledInverse::of(rt.alloc(), &reduced)?;
+    let inverse = eliminated.inverse(rt.alloc())?;
     let shared = circuit_with(rt.alloc(), &problem, &cell, &inverse, 2, 4)?;
     assert_eq!(rt;
         shared.coefficients.as_slice(),

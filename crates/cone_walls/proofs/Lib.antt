@@ -1,4 +1,3 @@
-pub mod Between
 pub mod ProblemPoints
 pub mod Pushing
 pub mod MovingFrame
@@ -9,3 +8,4 @@ pub mod SomeMoment
 pub mod Living
 pub mod Outcomes
 pub mod Making
+mod RoomAround

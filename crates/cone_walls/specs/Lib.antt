@@ -5,3 +5,4 @@ pub mod Made
 pub mod Places
 pub mod Sides
 pub mod Lives
+pub mod Rooms

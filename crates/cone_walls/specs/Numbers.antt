@@ -1,8 +1,7 @@
 -- The two numbers of a wall line, under the normal (p + q t) / den.
 use Rattle.std.specs.Prelude.{List, ℤ, ◌+ℤ◌, ◌-ℤ◌, ◌*ℤ◌}
-use Rattle.wide_int.specs.Whole.{FitsWhole}
 use Rattle.int_vectors.specs.Vectors.{sub, dot}
-use Rattle.int_vectors.specs.Fits.{FitsDot}
+use Rattle.int_vectors.specs.Fits.{FitsSum}
 use Rattle.cayley.specs.Problems.{Point}
 use Rattle.inner_normal.specs.declared.moving.MovingNormal.{MovingNormal}
 
@@ -13,10 +12,6 @@ alpha m a c = m.den *ℤ (c.base -ℤ a.base) +ℤ dot (sub c.coordinates a.coor
 -- and how much that grows while the time grows by 1
 abbrev pub beta : MovingNormal → Point → Point → ℤ
 beta m a c = m.den *ℤ (c.speed -ℤ a.speed) +ℤ dot (sub c.coordinates a.coordinates) m.q
-
--- the start, each product and each partial sum fit
-abbrev pub FitsSum : ℤ → List ℤ → List ℤ → Type 0
-FitsSum start xs ys = FitsWhole start × FitsDot start xs ys
 
 -- each number on the way to the two fits
 abbrev pub FitsWall : MovingNormal → Point → Point → Type 0

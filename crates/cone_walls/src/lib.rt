@@ -3,6 +3,7 @@
 #![tactic(auto)]
 
 mod lines;
+mod rooms;
 mod steps;
 mod sums;
 mod walls;

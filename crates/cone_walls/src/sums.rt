@@ -1,43 +1,22 @@
-ghost use Rattle.std.specs.Prelude.{◌≡◌, ℕ, ℤ, pos, ◌+ℤ◌, ◌-ℤ◌, ◌*ℤ◌, SomeIff, IfSome, length};
+ghost use Rattle.std.specs.Prelude.{◌≡◌, ◌<◌, ◌^◌, unsigned_abs, ℕ, ℤ, pos, ◌+ℤ◌, ◌-ℤ◌, ◌*ℤ◌, SomeIff, IfSome, length};
 ghost use Rattle.wide_int.specs.Whole.{FitsWhole};
-ghost use Rattle.int_vectors.specs.Fits.{FitsDot};
+ghost use Rattle.int_vectors.specs.Bounds as bounds;
+ghost use Rattle.int_vectors.specs.Bounds.{IsNarrow};
+ghost use Rattle.int_vectors.specs.Fits.{FitsDot, FitsSum};
 ghost use Rattle.int_vectors.specs.Vectors.{Each, sub, dot};
 ghost use Rattle.cayley.specs.Stored.{point};
-ghost use Rattle.cayley.specs.Valid.{IsCornerCoordinate};
+ghost use Rattle.cayley.specs.Valid.{IsHeight};
 ghost use Rattle.crossing.specs.Lines.{FitsLine};
 ghost use Rattle.cone_walls.specs.Listed as listed;
-ghost use Rattle.cone_walls.specs.Numbers.{FitsSum, FitsWall};
+ghost use Rattle.cone_walls.specs.Numbers.{FitsWall};
+ghost use Rattle.cone_walls.specs.Rooms.{IsRoomAt, AreCopies, HasRoom};
 
+use crate::rooms::{Copies, Room};
 use cayley::Point;
 use crossing::WallLine;
 use inner_normal::MovingNormal;
-use wide_int::{product, sum};
-
-// The product of a difference of two coordinates and a number.
-fn product_with(a: i128, c: i128, x: i128) -> Option<i128>
-    requires a_small { IsCornerCoordinate a }
-    requires c_small { IsCornerCoordinate c }
-    ensures { SomeIff result (FitsWhole ((c -ℤ a) *ℤ x)) ((c -ℤ a) *ℤ x) }
-{
-    product(c - a, x)
-}
-
-// `start` plus the sum of the products of c less a and v.
-fn dot_between(start: i128, a: &[i128], c: &[i128], v: &[i128]) -> Option<i128>
-    requires a_length { length a.now ≡ length v.now }
-    requires c_length { length c.now ≡ length v.now }
-    requires a_small { Each a.now IsCornerCoordinate }
-    requires c_small { Each c.now IsCornerCoordinate }
-    requires fits { FitsWhole start }
-    ensures value { SomeIff result (FitsDot start (sub c.now a.now) v.now) (start +ℤ dot (sub c.now a.now) v.now) }
-    ensures fits { IfSome result (λ total. FitsWhole total) }
-{
-    let mut total = start;
-    for (i, x) in v.iter().enumerate() {
-        total = sum(total, product_with(a[i], c[i], *x)?)?;
-    }
-    Some(total)
-}
+use int_vectors::{dot_between, dot_between_unchecked, narrow_dots_between};
+use wide_int::product;
 
 // How much higher c is than a at the time 0.
 fn base_difference(a: i64, c: i64) -> i128
@@ -59,8 +38,8 @@ fn speed_difference(a: u8, c: u8) -> i128
 fn number(den: i128, height: i128, a: &Point, c: &Point, v: &[i128]) -> Option<i128>
     requires a_length { length a.now.coords ≡ length v.now }
     requires c_length { length c.now.coords ≡ length v.now }
-    requires a_small { Each a.now.coords IsCornerCoordinate }
-    requires c_small { Each c.now.coords IsCornerCoordinate }
+    requires a_small { Each a.now.coords IsNarrow }
+    requires c_small { Each c.now.coords IsNarrow }
     ensures value { SomeIff result (FitsSum (den *ℤ height) (sub c.now.coords a.now.coords) v.now) (den *ℤ height +ℤ dot (sub c.now.coords a.now.coords) v.now) }
     ensures fits { IfSome result (λ total. FitsWhole total) }
 {
@@ -68,8 +47,8 @@ fn number(den: i128, height: i128, a: &Point, c: &Point, v: &[i128]) -> Option<i
     dot_between(start, a.coords.as_slice(), c.coords.as_slice(), v)
 }
 
-// The line of point `c` at a position of support i against point `a`.
-pub(crate) fn line(
+// The line of point `c`, with a check for each of its numbers.
+fn checked_line(
     normal: &MovingNormal,
     i: u32,
     a: &Point,
@@ -78,8 +57,8 @@ pub(crate) fn line(
 ) -> Option<WallLine>
     requires p_lengths { (length a.now.coords ≡ length normal.now.p) × (length c.now.coords ≡ length normal.now.p) }
     requires q_lengths { (length a.now.coords ≡ length normal.now.q) × (length c.now.coords ≡ length normal.now.q) }
-    requires a_small { Each a.now.coords IsCornerCoordinate }
-    requires c_small { Each c.now.coords IsCornerCoordinate }
+    requires a_small { Each a.now.coords IsNarrow }
+    requires c_small { Each c.now.coords IsNarrow }
     ensures value { SomeIff result (FitsWall normal.now (point a.now) (point c.now)) (listed.line_of normal.now i (point a.now) position (point c.now)) }
     ensures fits { IfSome result FitsLine }
 {
@@ -103,4 +82,152 @@ pub(crate) fn line(
         alpha,
         beta,
     })
+}
+
+// The product of two numbers, where a bound shows that it fits.
+#[inline(always)]
+fn scaled(den: i64, h: i64) -> i64
+    requires { unsigned_abs (den *ℤ h) < 2 ^ 62 }
+    ensures { result ≡ den *ℤ h }
+{
+    den * h
+}
+
+// How much higher c is than a at the time 0.
+#[inline(always)]
+fn rise(a: i64, c: i64) -> i64
+    requires a_high { IsHeight a }
+    requires c_high { IsHeight c }
+    ensures { result ≡ c -ℤ a }
+{
+    c - a
+}
+
+// How much faster c rises than a.
+#[inline(always)]
+fn haste(a: u8, c: u8) -> i64
+    ensures { result ≡ pos c -ℤ pos a }
+{
+    c as i64 - a as i64
+}
+
+// The line of point `c`, by numbers of 64 bits.
+#[inline(always)]
+fn narrow_line(copies: &Copies, i: u32, a: &Point, position: u32, c: &Point) -> WallLine
+    requires p_lengths { (length a.now.coords ≡ length copies.now.p.items) × (length c.now.coords ≡ length copies.now.p.items) }
+    requires q_length { length copies.now.q.items ≡ length copies.now.p.items }
+    requires a_small { Each a.now.coords IsNarrow }
+    requires c_small { Each c.now.coords IsNarrow }
+    requires a_high { IsHeight a.now.base }
+    requires c_high { IsHeight c.now.base }
+    requires alpha { bounds.Room (2 ^ 62) (copies.now.den *ℤ (c.now.base -ℤ a.now.base)) (sub c.now.coords a.now.coords) copies.now.p.items }
+    requires beta { bounds.Room (2 ^ 62) (copies.now.den *ℤ (pos c.now.speed -ℤ pos a.now.speed)) (sub c.now.coords a.now.coords) copies.now.q.items }
+    ensures support { result.support ≡ i }
+    ensures position { result.position ≡ position }
+    ensures alpha { result.alpha ≡ copies.now.den *ℤ (c.now.base -ℤ a.now.base) +ℤ dot (sub c.now.coords a.now.coords) copies.now.p.items }
+    ensures beta { result.beta ≡ copies.now.den *ℤ (pos c.now.speed -ℤ pos a.now.speed) +ℤ dot (sub c.now.coords a.now.coords) copies.now.q.items }
+{
+    let start = scaled(copies.den, rise(a.base, c.base));
+    let other = scaled(copies.den, haste(a.speed, c.speed));
+    let (alpha, beta) = narrow_dots_between(
+        start,
+        other,
+        a.coords.as_slice(),
+        c.coords.as_slice(),
+        &copies.p,
+        &copies.q,
+    );
+    WallLine {
+        support: i,
+        position,
+        alpha: alpha as i128,
+        beta: beta as i128,
+    }
+}
+
+// The same, as the line of the normal.
+#[inline(always)]
+pub(crate) fn narrow_line_of(
+    normal: &MovingNormal,
+    copies: &Copies,
+    i: u32,
+    a: &Point,
+    position: u32,
+    c: &Point,
+) -> WallLine
+    requires p_lengths { (length a.now.coords ≡ length normal.now.p) × (length c.now.coords ≡ length normal.now.p) }
+    requires q_length { length normal.now.q ≡ length normal.now.p }
+    requires a_small { Each a.now.coords IsNarrow }
+    requires c_small { Each c.now.coords IsNarrow }
+    requires a_high { IsHeight a.now.base }
+    requires c_high { IsHeight c.now.base }
+    requires copies { AreCopies copies.now normal.now }
+    requires room { HasRoom (2 ^ 62) normal.now (point a.now) (point c.now) }
+    ensures value { FitsWall normal.now (point a.now) (point c.now) × (result ≡ listed.line_of normal.now i (point a.now) position (point c.now)) }
+    ensures fits { FitsLine result }
+{
+    narrow_line(copies, i, a, position, c)
+}
+
+// The product of two numbers, where a bound shows that it fits.
+#[inline(always)]
+fn wide_scaled(den: i128, h: i128) -> i128
+    requires { unsigned_abs (den *ℤ h) < 2 ^ 127 }
+    ensures { result ≡ den *ℤ h }
+{
+    den * h
+}
+
+// The line of point `c`, by numbers of 128 bits, where a bound shows that they fit.
+fn wide_line(normal: &MovingNormal, i: u32, a: &Point, position: u32, c: &Point) -> WallLine
+    requires p_lengths { (length a.now.coords ≡ length normal.now.p) × (length c.now.coords ≡ length normal.now.p) }
+    requires q_length { length normal.now.q ≡ length normal.now.p }
+    requires a_small { Each a.now.coords IsNarrow }
+    requires c_small { Each c.now.coords IsNarrow }
+    requires alpha { bounds.Room (2 ^ 127) (normal.now.den *ℤ (c.now.base -ℤ a.now.base)) (sub c.now.coords a.now.coords) normal.now.p }
+    requires beta { bounds.Room (2 ^ 127) (normal.now.den *ℤ (pos c.now.speed -ℤ pos a.now.speed)) (sub c.now.coords a.now.coords) normal.now.q }
+    ensures support { result.support ≡ i }
+    ensures position { result.position ≡ position }
+    ensures alpha { result.alpha ≡ normal.now.den *ℤ (c.now.base -ℤ a.now.base) +ℤ dot (sub c.now.coords a.now.coords) normal.now.p }
+    ensures beta { result.beta ≡ normal.now.den *ℤ (pos c.now.speed -ℤ pos a.now.speed) +ℤ dot (sub c.now.coords a.now.coords) normal.now.q }
+{
+    let start = wide_scaled(normal.den, base_difference(a.base, c.base));
+    let other = wide_scaled(normal.den, speed_difference(a.speed, c.speed));
+    let from = a.coords.as_slice();
+    let to = c.coords.as_slice();
+    let alpha = dot_between_unchecked(start, from, to, normal.p.as_slice());
+    let beta = dot_between_unchecked(other, from, to, normal.q.as_slice());
+    WallLine {
+        support: i,
+        position,
+        alpha,
+        beta,
+    }
+}
+
+// The line of point `c` at a position of support i against point `a`, as fast as the room of the
+// normal allows.
+pub(crate) fn line(
+    normal: &MovingNormal,
+    room: &Room,
+    i: u32,
+    a: &Point,
+    position: u32,
+    c: &Point,
+) -> Option<WallLine>
+    requires p_lengths { (length a.now.coords ≡ length normal.now.p) × (length c.now.coords ≡ length normal.now.p) }
+    requires q_lengths { (length a.now.coords ≡ length normal.now.q) × (length c.now.coords ≡ length normal.now.q) }
+    requires a_small { Each a.now.coords IsNarrow }
+    requires c_small { Each c.now.coords IsNarrow }
+    requires a_high { IsHeight a.now.base }
+    requires c_high { IsHeight c.now.base }
+    requires room { IsRoomAt normal.now (point a.now) (point c.now) room.now }
+    ensures value { SomeIff result (FitsWall normal.now (point a.now) (point c.now)) (listed.line_of normal.now i (point a.now) position (point c.now)) }
+    ensures fits { IfSome result FitsLine }
+{
+    match room {
+        Room::Narrow { copies } => Some(narrow_line(copies, i, a, position, c)),
+        Room::Wide => Some(wide_line(normal, i, a, position, c)),
+        Room::Unknown => checked_line(normal, i, a, position, c),
+    }
 }

@@ -10,7 +10,7 @@ ghost use Rattle.crossing.specs.declared.entry.Entry.TheVariants as entry;
 ghost use Rattle.inner_normal.specs.MovingNormals.{IsMovingNormal};
 ghost use Rattle.inner_normal.specs.Workings.{IsNormalFrom};
 ghost use Rattle.reduced_rows.specs.CellRefusals.{IsEliminated, IsCellFault, OnDependent, HasAnswer, IsCellDependent, CellOverflowExactly};
-ghost use Rattle.reduced_rows.specs.Refusals.{IsFault, IsFromFault};
+ghost use Rattle.reduced_rows.specs.Refusals.{IsFromFault};
 ghost use Rattle.reduced_rows.specs.Steps.{FitsElimination};
 ghost use Rattle.cone_walls.specs.Lives.{IsNeverAlive, LivesBetween};
 ghost use Rattle.cone_walls.specs.Made.{IsMade};
@@ -22,8 +22,8 @@ use crate::lines::lines_of;
 use crate::steps::Steps;
 use cayley::{Cell, Problem};
 use crossing::WallLine;
-use inner_normal::{MovingNormal, normal_from};
-use reduced_rows::{CellFault, FromFault, ReduceFault, Reduced, reduce};
+use inner_normal::{Eliminated, MovingNormal};
+use reduced_rows::{CellFault, FromFault, Reduced};
 use std::alloc::Global;
 use std::sync::ledger::Ledger;
 
@@ -39,32 +39,27 @@ pub struct Walls {
     pub lines: Vec<WallLine>,
 }
 
-// The walls of a cell with these reduced rows.
-fn walls_from(
+// The walls of a cell that was eliminated.
+fn walls_within(
     alloc: Global,
     problem: &Problem,
     cell: &Cell,
-    reduced: Reduced,
+    eliminated: Eliminated,
 ) -> Result<Walls, FromFault>
     requires of { IsOf problem.now cell.now }
-    requires answer { IsEliminated problem.now.dimension (edge_rows problem.now cell.now) reduced }
+    requires answer { IsEliminated problem.now.dimension (edge_rows problem.now cell.now) eliminated }
     ensures { MatchResult result
         (λ w. IsMade problem.now cell.now w.reduced w.normal w.lines.items)
-        (IsFromFault (FitsRest problem.now cell.now reduced)) }
+        (IsFromFault (FitsRest problem.now cell.now eliminated)) }
 {
     let _dim = problem.dim();
-    let normal = match normal_from(alloc, &reduced) {
-        Ok(normal) => normal,
-        Err(fault) => return Err(fault),
-    };
-    match lines_of(alloc, problem, cell, &normal) {
-        Ok(lines) => Ok(Walls {
-            reduced,
-            normal,
-            lines,
-        }),
-        Err(fault) => Err(fault),
-    }
+    let normal = eliminated.normal(alloc)?;
+    let lines = lines_of(alloc, problem, cell, &normal)?;
+    Ok(Walls {
+        reduced: eliminated.into_reduced(),
+        normal,
+        lines,
+    })
 }
 
 // The walls of a cell.
@@ -74,19 +69,9 @@ fn made_walls(alloc: Global, problem: &Problem, cell: &Cell) -> Result<Walls, Ce
         (λ w. IsMade problem.now cell.now w.reduced w.normal w.lines.items)
         (IsCellFault (FitsWallWorking problem.now cell.now) problem.now.dimension (edge_rows problem.now cell.now)) }
 {
-    let Ok(rows) = problem.edge_rows(alloc, cell) else {
-        return Err(CellFault::OutOfMemory);
-    };
-    match reduce(alloc, rows, problem.dim()) {
-        Ok(reduced) => match walls_from(alloc, problem, cell, reduced) {
-            Ok(walls) => Ok(walls),
-            Err(FromFault::Overflow) => Err(CellFault::Overflow),
-            Err(FromFault::OutOfMemory) => Err(CellFault::OutOfMemory),
-        },
-        Err(ReduceFault::Overflow) => Err(CellFault::Overflow),
-        Err(ReduceFault::Dependent { kernel }) => Err(CellFault::Dependent { kernel }),
-        Err(ReduceFault::OutOfMemory) => Err(CellFault::OutOfMemory),
-    }
+    let eliminated = Eliminated::of(alloc, problem, cell)?;
+    let walls = walls_within(alloc, problem, cell, eliminated)?;
+    Ok(walls)
 }
 
 /// The reduced rows, the normal and the wall lines of a cell that the problem contains. `Overflow`
@@ -123,6 +108,8 @@ pub fn walls_of<L: Ledger>(
         ↔ (FitsElimination problem.now.dimension (edge_rows problem.now cell.now) × ¬ (IsIndependent problem.now cell.now)) }
     // Dependent: the kernel isn't zero, and it is orthogonal to each difference of the pairs.
     ensures kernel { IfErr result (OnDependent (IsCellKernel problem.now cell.now)) }
+    // The kernel that comes out is that of the working.
+    ensures working { IfErr result (IsCellFault (FitsWallWorking problem.now cell.now) problem.now.dimension (edge_rows problem.now cell.now)) }
 {
     let _dim = problem.dim();
     steps.tick();

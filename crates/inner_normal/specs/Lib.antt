@@ -1,3 +1,6 @@
 pub mod Workings
 pub mod MovingNormals
 pub mod LowestForms
+pub mod Inverses
+pub mod Coefficients
+pub mod LeastDenominators

@@ -3,7 +3,7 @@ use Rattle.std.proofs.Common.{◌≡◌, ℕ, zero, suc, ◌+◌, ◌*◌, ◌^�
 use Rattle.std.proofs.lemmas.Int.{unsigned_abs-mul}
 use Rattle.std.proofs.lemmas.List.{take_more}
 use Rattle.int_vectors.specs.RowSteps.{eliminated, FitsEliminated}
-use Rattle.int_vectors.specs.Bounds.{size, Within, StepRoom}
+use Rattle.int_vectors.specs.Bounds.{size, Within, StepRoom, NarrowStepRoom}
 use Rattle.int_vectors.specs.Fits.{AllFit}
 use Rattle.int_vectors.proofs.Fitting.{fits-eliminated}
 use Rattle.int_vectors.proofs.TakingOff.{off_read}
@@ -27,7 +27,7 @@ size_not xs i t m h e n k = n (omega (arith, e, size_more xs i h, size_front (i 
 pub size_end : (xs : List ℤ) (i t m : ℕ) → length xs ≤ i → t ≡ size (take i xs) → t < m → (size xs < m) × (t ≡ size xs)
 size_end xs i t m h e l = let a = ap size (take_all i xs h) in (omega (arith, e, a), e ∙ a)
 
-within_weaker : (v w : ℕ) (xs : List ℤ) → v ≤ w → Within v xs → Within w xs
+pub within_weaker : (v w : ℕ) (xs : List ℤ) → v ≤ w → Within v xs → Within w xs
 within_weaker v w [] h k = tt
 within_weaker v w (x ∷ xs) h k = let a = k.0 in (omega (arith, a), within_weaker v w xs h k.1)
 
@@ -89,3 +89,22 @@ off_all p f old by now i e le is =
 -- what is written behind the bound fits
 pub behind_fits : (p f : ℤ) (old by now : List ℤ) → StepRoom (2 ^ 127) p f old by → now ≡ eliminated p f old by → FitsEliminated p f old by × (now ≡ eliminated p f old by) × AllFit now
 behind_fits p f old by now r e = let h = step_fits p f old by r in (h, e, subst AllFit (sym e) (fits-eliminated p f old by h))
+
+-- the same in 64 bits
+pub narrow_at : (p f : ℤ) (old by now : List ℤ) (i : ℕ) (e : length old ≡ length by) (lt : i < length old) (is : now ≡ eliminated p f (take i old) (take i by) ++ drop i old) → NarrowStepRoom p f old by
+    → (unsigned_abs (get_or now i (pos 0)) < 2 ^ 62) × (unsigned_abs (get_or by i (pos 0)) < 2 ^ 62) × (unsigned_abs (p *ℤ get_or now i (pos 0)) < 2 ^ 62) × (unsigned_abs (f *ℤ get_or by i (pos 0)) < 2 ^ 62)
+narrow_at p f old by now i e lt is (u, v, hu, hv, (hp, hf, ku, kv, h)) =
+    let b = off_below p f old by now i e lt is (2 ^ 62) (u, v, hu, hv, h) in
+    let y = within_at v by i (omega arith) hv in
+    let x = within_at u old i lt hu in (
+      subst (λ z. unsigned_abs z < 2 ^ 62) (sym (off_read p f old by now i e lt is)) (omega (arith, x, ku)),
+      omega (arith, y, kv),
+      b.0,
+      b.1,
+    )
+
+pub step_wider : (p f : ℤ) (xs ys : List ℤ) → NarrowStepRoom p f xs ys → StepRoom (2 ^ 127) p f xs ys
+step_wider p f xs ys (u, v, hu, hv, (hp, hf, ku, kv, h)) = (u, v, hu, hv, below (unsigned_abs p * u) (unsigned_abs f * v) h)
+  where
+    below : (a b : ℕ) → a + b < 2 ^ 62 → a + b < 2 ^ 127
+    below a b h = omega (arith, h)

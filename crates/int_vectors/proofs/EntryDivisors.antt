@@ -10,12 +10,8 @@ use Rattle.std.proofs.lemmas.Nat.Gcd.{dvd-zero, dvd_trans, dvd_antisymm}
 use Rattle.int_vectors.specs.Vectors.{scale}
 use Rattle.wide_int.proofs.Dividing.{quot_exact}
 use Rattle.wide_int.proofs.Order.{mul_cancel}
-use Rattle.int_vectors.specs.Contents.{content, DividesEach, divided, primitive}
+use Rattle.int_vectors.specs.Contents.{content, DividesEach, IsContent, divided, primitive}
 use Rattle.wide_int.proofs.CommonDivisors.{gcd_is}
-
--- g is the gcd of the entries
-abbrev pub IsContent : List ℤ → ℕ → Type 0
-IsContent xs g = DividesEach g xs × ((d : ℕ) → DividesEach d xs → d ∣ g)
 
 divides_trans : (d g : ℕ) (xs : List ℤ) → d ∣ g → DividesEach g xs → DividesEach d xs
 divides_trans d g [] h k = tt

@@ -1,3 +1,4 @@
+pub mod DifferenceSums
 pub mod BoundRows
 pub mod BoundSums
 pub mod Differences

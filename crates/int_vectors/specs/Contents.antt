@@ -13,6 +13,10 @@ abbrev pub DividesEach : ℕ → List ℤ → Type 0
 DividesEach d [] = Unit {0}
 DividesEach d (x ∷ xs) = d ∣ unsigned_abs x × DividesEach d xs
 
+-- g is the greatest number that divides each entry, 0 where each is 0
+abbrev pub IsContent : List ℤ → ℕ → Type 0
+IsContent xs g = DividesEach g xs × ((d : ℕ) → DividesEach d xs → d ∣ g)
+
 -- each entry divided by g
 unfoldable pub divided : ℤ → List ℤ → List ℤ
 divided g xs = map (λ x. int_div x g) xs

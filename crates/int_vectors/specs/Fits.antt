@@ -12,3 +12,7 @@ unfoldable pub FitsDot : ℤ → List ℤ → List ℤ → Type 0
 FitsDot start [] ys = FitsWhole start
 FitsDot start (x ∷ xs) [] = FitsWhole start
 FitsDot start (x ∷ xs) (y ∷ ys) = FitsWhole (x *ℤ y) × FitsWhole (start +ℤ x *ℤ y) × FitsDot (start +ℤ x *ℤ y) xs ys
+
+-- the same, and the start fits too where there is nothing to add
+abbrev pub FitsSum : ℤ → List ℤ → List ℤ → Type 0
+FitsSum start xs ys = FitsWhole start × FitsDot start xs ys

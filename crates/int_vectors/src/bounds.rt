@@ -1,10 +1,11 @@
-ghost use Rattle.std.specs.Prelude.{◌≡◌, ◌<◌, ◌≤◌, ◌↔◌, ◌+◌, ◌*◌, ◌^◌, ℕ, ℤ, List, ◌+ℤ◌, unsigned_abs, SomeIff, IfSome, IsTrue, MatchBool, length};
+ghost use Rattle.std.specs.Prelude.{◌≡◌, ◌<◌, ◌≤◌, ◌↔◌, ◌+◌, ◌*◌, ◌^◌, ℕ, ℤ, List, ◌+ℤ◌, ◌-ℤ◌, ◌*ℤ◌, unsigned_abs, SomeIff, IfSome, IsTrue, MatchBool, length};
 ghost use Rattle.wide_int.specs.Whole.{FitsWhole};
-ghost use Rattle.int_vectors.specs.Bounds.{size, Within, SumBelow, Room, StepRoom};
+ghost use Rattle.int_vectors.specs.Bounds.{size, Within, SumBelow, Room, StepRoom, IsNarrow, IsNarrowStep};
 ghost use Rattle.int_vectors.specs.Fits.{AllFit, FitsDot};
 ghost use Rattle.int_vectors.specs.RowSteps.{eliminated, FitsEliminated};
 ghost use Rattle.int_vectors.specs.Vectors as vectors;
 
+use crate::narrow::take_off_narrow;
 use crate::row_steps::take_off;
 use crate::sums::dot_from;
 
@@ -113,6 +114,39 @@ fn take_off_unchecked(entries: &mut [i128], pivot: i128, factor: i128, by: &[i12
     }
 }
 
+// Whether the two products and their difference stay below 2^62.
+fn products_short(pivot: i128, u: u128, factor: i128, v: u128) -> bool
+    ensures { IsTrue result → (unsigned_abs pivot * u + unsigned_abs factor * v < 2 ^ 62) }
+{
+    let Some(left) = pivot.unsigned_abs().checked_mul(u) else {
+        return false;
+    };
+    let Some(right) = factor.unsigned_abs().checked_mul(v) else {
+        return false;
+    };
+    match left.checked_add(right) {
+        Some(all) => all < 1 << 62,
+        None => false,
+    }
+}
+
+fn is_short(x: i128) -> bool
+    ensures { IsTrue result → IsNarrow x }
+{
+    x.unsigned_abs() < 1 << 62
+}
+
+// Whether a step stays below 2^62, and so do its rows.
+fn narrow_fits(pivot: i128, u: u128, factor: i128, v: u128) -> bool
+    ensures { IsTrue result → IsNarrowStep pivot u factor v }
+{
+    is_short(pivot)
+        && is_short(factor)
+        && u < 1 << 62
+        && v < 1 << 62
+        && products_short(pivot, u, factor, v)
+}
+
 // As `take_off`, by one test in place of one for each number where that is enough; `u` and `v` bound
 // the two rows.
 pub(crate) fn take_off_behind(
@@ -132,7 +166,10 @@ pub(crate) fn take_off_behind(
         (¬ (FitsEliminated pivot factor entries.old by.now)) }
     ensures fits { AllFit entries.new }
 {
-    if step_fits(pivot, u, factor, v) {
+    if narrow_fits(pivot, u, factor, v) {
+        take_off_narrow(entries, pivot, factor, by);
+        true
+    } else if step_fits(pivot, u, factor, v) {
         take_off_unchecked(entries, pivot, factor, by);
         true
     } else {

@@ -1,14 +1,48 @@
-ghost use Rattle.std.specs.Prelude.{◌≡◌, List, pos, ◌<ℤ◌, unsigned_abs};
+ghost use Rattle.std.specs.Prelude.{◌≡◌, List, IfSome, pos, ◌<ℤ◌, unsigned_abs};
 ghost use Rattle.wide_int.specs.Whole.{FitsWhole};
 ghost use Rattle.int_vectors.specs.Contents as contents;
 ghost use Rattle.int_vectors.specs.Contents.{DividesEach};
 ghost use Rattle.int_vectors.specs.Fits.{AllFit};
 ghost use Rattle.int_vectors.specs.Vectors.{scale};
 
-use wide_int::gcd;
+use wide_int::{gcd, quotient, short_gcd};
+
+// The absolute value in 64 bits.
+#[inline(always)]
+fn short_size(x: i128) -> Option<u64>
+    ensures { IfSome result (λ n. n ≡ unsigned_abs x) }
+{
+    u64::try_from(x.unsigned_abs()).ok()
+}
+
+// The greatest common divisor of entries in 64 bits.
+fn short_content(entries: &[i128]) -> Option<u64>
+    ensures { IfSome result (λ g. g ≡ contents.content entries.now) }
+{
+    let mut g = 0u64;
+    for x in entries {
+        g = short_gcd(short_size(*x)?, g);
+        if g == 1 {
+            return Some(1);
+        }
+    }
+    Some(g)
+}
 
 // The greatest common divisor of the entries.
 pub(crate) fn content(entries: &[i128]) -> i128
+    requires { AllFit entries.now }
+    ensures value { result ≡ pos (contents.content entries.now) }
+    ensures fits { FitsWhole result }
+{
+    match short_content(entries) {
+        Some(g) => g as i128,
+        None => wide_content(entries),
+    }
+}
+
+// The greatest common divisor of the entries, in 128 bits.
+fn wide_content(entries: &[i128]) -> i128
     requires { AllFit entries.now }
     ensures value { result ≡ pos (contents.content entries.now) }
     ensures fits { FitsWhole result }
@@ -30,7 +64,7 @@ fn divide_all(entries: &mut [i128], g: i128)
     ensures { entries.old ≡ scale g entries.new }
 {
     for x in entries.iter_mut() {
-        *x = *x / g;
+        *x = quotient(*x, g);
     }
 }
 
@@ -49,6 +83,7 @@ pub(crate) fn divide_entries(entries: &mut [i128], g: i128)
 pub(crate) fn make_primitive(entries: &mut [i128])
     requires { AllFit entries.old }
     ensures value { entries.new ≡ contents.primitive entries.old }
+    ensures divided { entries.old ≡ scale (pos (contents.content entries.old)) entries.new }
     ensures fits { AllFit entries.new }
 {
     let g = content(entries);

@@ -1,15 +1,19 @@
 //! Vectors of whole numbers, each of which fits.
 #![tactic(auto)]
 
+mod between;
 mod bounds;
 mod contents;
 mod faults;
+mod narrow;
 mod row_steps;
 mod sums;
 mod vector;
 
+pub use between::{dot_between, dot_between_unchecked};
 pub use bounds::{dot_behind, dot_unchecked, greatest, row_fits, row_size, sum_fits};
 pub use faults::{IntVecFault, SubFault};
+pub use narrow::{narrow_copy, narrow_dots_between};
 pub use sums::dot_from;
 pub use vector::{IntVec, dot};
 

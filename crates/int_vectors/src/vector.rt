@@ -2,7 +2,7 @@ ghost use Rattle.std.specs.Prelude.{◌≡◌, ◌<◌, ◌≤◌, ℕ, ℤ, Lis
 ghost use Rattle.wide_int.specs.Whole.{FitsWhole};
 ghost use Rattle.int_vectors.specs.Bounds.{Within};
 ghost use Rattle.int_vectors.specs.Contents as contents;
-ghost use Rattle.int_vectors.specs.Contents.{DividesEach};
+ghost use Rattle.int_vectors.specs.Contents.{DividesEach, IsContent};
 ghost use Rattle.int_vectors.specs.Fits.{AllFit, FitsDot};
 ghost use Rattle.int_vectors.specs.Refusals.{IsUnfit, IsSubFault};
 ghost use Rattle.int_vectors.specs.RowSteps as steps;
@@ -135,6 +135,8 @@ impl IntVec {
     /// The greatest common divisor of the entries, 0 where each is 0.
     pub fn content(&self) -> i128
         ensures value { result ≡ pos (contents.content self.now) }
+        // It divides each entry, and each number that does divides it.
+        ensures greatest { IsContent self.now (contents.content self.now) }
         ensures fits { FitsWhole result }
     {
         content(&self.entries)
@@ -142,7 +144,9 @@ impl IntVec {
 
     /// Divides each entry by the greatest common divisor of the entries; a zero vector stays.
     pub fn primitive(&mut self)
-        ensures { self.new ≡ contents.primitive self.old }
+        ensures value { self.new ≡ contents.primitive self.old }
+        ensures divided { self.old ≡ vectors.scale (pos (contents.content self.old)) self.new }
+        ensures greatest { IsContent self.old (contents.content self.old) }
     {
         make_primitive(&mut self.entries);
     }

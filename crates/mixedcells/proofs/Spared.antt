@@ -49,7 +49,7 @@ use Rattle.mixedcells.proofs.Counted.{few_cells}
 
 -- ---- workings
 
-fits_working : (p : Problem) (cell : Cell) → plain.FitsWorking p cell → written.FitsWorking p cell
+fits_working : (p : Problem) (cell : Cell) → plain.FitsWorking p cell → written.FitsWritten p cell
 fits_working p cell h = (
   h.0,
   λ made e. pairs_map p.supports cell
@@ -114,7 +114,7 @@ module _ (file : File) (valid : IsValidFile file) where
       (cell_formed x m.0 n.0 (fit x.cell of), each_formed found m.1 n.1 fit)
 
   each_working : (lines : List ListedCell) → Each lines (λ x. IsMixedCell (plain_problem file) x.cell) → AllFit (plain_problem file)
-      → Each lines (λ x. written.FitsWorking (plain_problem file) x.cell)
+      → Each lines (λ x. written.FitsWritten (plain_problem file) x.cell)
   each_working [] m fit = tt
   each_working (x ∷ lines) m fit =
       let of = (subst (λ q. IsAlive q x.cell time_zero) (own_points file valid) m.0).0 in

@@ -9,7 +9,6 @@ pub mod Listed
 pub mod Shown
 pub mod Kept
 pub mod Small
-pub mod Between
 pub mod Plain
 pub mod Rising
 pub mod Points

@@ -19,7 +19,8 @@ use Rattle.cayley.specs.Normals.{IsNormal}
 use Rattle.cayley.specs.Mixed.{IsAlive, IsMixedCell, IsLowestNormal}
 use Rattle.cayley.specs.Rows.{unit_row, edge_rows_from, edge_rows}
 use Rattle.cayley.specs.Valid.{IsValidProblem}
-use Rattle.plain_lister.specs.Lists.{HasNoCorners, IsLowestForm}
+use Rattle.inner_normal.specs.LowestForms.{IsLowestForm}
+use Rattle.plain_lister.specs.Lists.{HasNoCorners}
 use Rattle.plain_lister.specs.Workings.{denominator, resting_part, FitsWall, FitsWalls, FitsRest, FitsWorking, FitsSupport, SupportRises}
 use Rattle.plain_lister.proofs.Pairs.{pairs_map, pairs_both, pairs_each}
 use Rattle.plain_lister.proofs.Mixed.{own_normal, alive_to, alive_from}

@@ -1,11 +1,10 @@
 -- What the lister answers.
-use Rattle.std.specs.Prelude.{◌≡◌, List, ◌∷◌, Option, MatchOption, length, ℤ, pos, ◌*ℤ◌, ◌<ℤ◌}
-use Rattle.int_vectors.specs.Vectors.{scale}
+use Rattle.std.specs.Prelude.{◌≡◌, List, Option, MatchOption, length}
 use Rattle.cayley.specs.declared.found.FoundCell.{FoundCell}
 use Rattle.cayley.specs.declared.found.Normal.{Normal}
 use Rattle.cayley.specs.Problems.{Problem, EachSupport}
 use Rattle.cayley.specs.Cells.{Cell, IsOf, IsLess}
-use Rattle.cayley.specs.Mixed.{IsCoprime, IsMixedCell, IsLowestNormal}
+use Rattle.cayley.specs.Mixed.{IsMixedCell, IsLowestNormal}
 use Rattle.plain_lister.specs.declared.faults.PlainFault.{PlainFault}
 use Rattle.plain_lister.specs.declared.faults.PlainFault.TheVariants.{TooMany, Overflow, OutOfMemory}
 use Rattle.plain_lister.specs.Choices.{HasTooMany, IsExcess}
@@ -14,10 +13,6 @@ use Rattle.plain_lister.specs.Workings.{FitsWorking}
 -- every point is a file point
 abbrev pub HasNoCorners : Problem → Type 0
 HasNoCorners p = EachSupport 1 p.files p.supports (λ i f s. length s ≡ f)
-
--- w / d is v / den without a common divisor
-abbrev pub IsLowestForm : List ℤ → ℤ → List ℤ → ℤ → Type 0
-IsLowestForm v den w d = (pos 0 <ℤ d) × IsCoprime (d ∷ w) × ((k : ℤ) × (v ≡ scale k w) × (k *ℤ d ≡ den))
 
 -- the found cell's normal is its cell's normal in lowest terms
 abbrev pub HasLowestNormal : Problem → FoundCell → Type 0

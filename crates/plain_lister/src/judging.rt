@@ -8,9 +8,9 @@ ghost use Rattle.reduced_rows.specs.Refusals.{IsFromFault};
 ghost use Rattle.reduced_rows.specs.Spans.{IsReducedOf};
 
 use crate::edges::copied;
-use crate::normals::lowest;
 use crate::rises::all_rise;
 use cayley::{Cell, Normal, Problem};
+use inner_normal::in_lowest_terms;
 use int_vectors::IntVec;
 use reduced_rows::{FromFault, ReduceFault, Reduced, reduce};
 use std::alloc::Global;
@@ -40,7 +40,7 @@ fn judge_reduced(
     match all_rise(problem, cell, den, &v) {
         None => Err(FromFault::Overflow),
         Some(false) => Ok(None),
-        Some(true) => Ok(Some(lowest(v, den))),
+        Some(true) => Ok(Some(in_lowest_terms(v, den))),
     }
 }
 

@@ -8,7 +8,6 @@ mod edges;
 mod faults;
 mod judging;
 mod lists;
-mod normals;
 mod rises;
 mod sums;
 mod trying;

@@ -9,33 +9,8 @@ ghost use Rattle.cayley.specs.Resting as resting;
 ghost use Rattle.plain_lister.specs.Workings.{FitsRise, AreSmall};
 
 use cayley::Point;
-use int_vectors::IntVec;
-use wide_int::{product, sum};
-
-// The product of a difference of two coordinates and a number.
-fn product_with(a: i128, c: i128, x: i128) -> Option<i128>
-    requires a_small { IsCoordinate a }
-    requires c_small { IsCoordinate c }
-    ensures { SomeIff result (FitsWhole ((c -ℤ a) *ℤ x)) ((c -ℤ a) *ℤ x) }
-{
-    product(c - a, x)
-}
-
-// `start` plus the sum of the products of c less a and v.
-fn dot_between(start: i128, a: &[i128], c: &[i128], v: &[i128]) -> Option<i128>
-    requires a_length { length a.now ≡ length v.now }
-    requires c_length { length c.now ≡ length v.now }
-    requires a_small { Each a.now IsCoordinate }
-    requires c_small { Each c.now IsCoordinate }
-    requires fits { FitsWhole start }
-    ensures { SomeIff result (FitsDot start (sub c.now a.now) v.now) (start +ℤ dot (sub c.now a.now) v.now) }
-{
-    let mut total = start;
-    for (i, x) in v.iter().enumerate() {
-        total = sum(total, product_with(a[i], c[i], *x)?)?;
-    }
-    Some(total)
-}
+use int_vectors::{IntVec, dot_between, dot_between_unchecked};
+use wide_int::product;
 
 // The denominator times the difference of two heights.
 fn scaled_height(den: i128, a: i64, c: i64) -> Option<i128>
@@ -69,22 +44,6 @@ pub(crate) fn are_small(den: i128, v: &IntVec) -> bool
     den.unsigned_abs() < 1 << 90 && v.greatest() < 1 << 90
 }
 
-// `dot_between` where a bound shows that each number fits.
-fn dot_within(start: i128, a: &[i128], c: &[i128], v: &[i128]) -> i128
-    requires a_length { length a.now ≡ length v.now }
-    requires c_length { length c.now ≡ length v.now }
-    requires a_small { Each a.now IsCoordinate }
-    requires c_small { Each c.now IsCoordinate }
-    requires room { Room (2 ^ 127) start (sub c.now a.now) v.now }
-    ensures { result ≡ start +ℤ dot (sub c.now a.now) v.now }
-{
-    let mut total = start;
-    for (i, x) in v.iter().enumerate() {
-        total = total + (c[i] - a[i]) * *x;
-    }
-    total
-}
-
 // The denominator times the difference of two heights, both small.
 fn height_within(den: i128, a: i64, c: i64) -> i128
     requires den { unsigned_abs den < 2 ^ 90 }
@@ -106,7 +65,7 @@ fn rise_within(den: i128, v: &IntVec, a: &Point, c: &Point) -> i128
     ensures fits { FitsRise den v.now (point a.now) (point c.now) }
     ensures value { result ≡ resting.rise den v.now (point a.now) (point c.now) }
 {
-    dot_within(
+    dot_between_unchecked(
         height_within(den, a.base, c.base),
         a.coords.as_slice(),
         c.coords.as_slice(),

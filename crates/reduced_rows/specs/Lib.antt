@@ -6,3 +6,4 @@ pub mod Solutions
 pub mod Least
 pub mod Refusals
 pub mod CellRefusals
+pub mod Conversions

@@ -83,9 +83,7 @@ fn eliminate_rows(alloc: Global, rows: Vec<IntVec>, columns: usize) -> Result<Re
 {
     let mut rest = rows;
     primitive_all(&mut rest);
-    let Ok(mut done) = Vec::with_capacity(alloc, columns) else {
-        return Err(ReduceFault::OutOfMemory);
-    };
+    let mut done = Vec::with_capacity(alloc, columns)?;
     for k in 0..columns {
         let Some(by) = pivot(&mut rest, k) else {
             return Err(dependent(alloc, &done, k, columns - k - 1));
@@ -96,9 +94,7 @@ fn eliminate_rows(alloc: Global, rows: Vec<IntVec>, columns: usize) -> Result<Re
         if !clean_all(&mut rest, &by, k) {
             return Err(ReduceFault::Overflow);
         }
-        if let Err(_) = done.push(by) {
-            return Err(ReduceFault::OutOfMemory);
-        }
+        done.push(by)?;
     }
     Ok(Reduced::new(done))
 }

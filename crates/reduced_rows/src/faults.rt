@@ -1,5 +1,7 @@
 use int_vectors::IntVec;
+use std::alloc::{AllocError, AllocFailed};
 use thiserror::Error;
+use wide_int::OutOfMemory;
 
 /// Why rows have no reduced rows.
 #[derive(Debug, Drop, Error)]
@@ -39,4 +41,88 @@ pub enum FromFault {
     /// There was no memory.
     #[error("out of memory")]
     OutOfMemory,
+}
+
+impl From<AllocError> for ReduceFault {
+    ghost use Rattle.reduced_rows.specs.declared.faults.ReduceFault.TheVariants.{OutOfMemory as no_memory};
+    ghost use Rattle.std.specs.Prelude.{◌≡◌};
+
+    ghost from_gives = { λ _ e. e ≡ no_memory };
+
+    fn from(_fault: AllocError) -> ReduceFault {
+        ReduceFault::OutOfMemory
+    }
+}
+
+impl<T: Drop> From<AllocFailed<T>> for ReduceFault {
+    ghost use Rattle.reduced_rows.specs.declared.faults.ReduceFault.TheVariants.{OutOfMemory as no_memory};
+    ghost use Rattle.std.specs.Prelude.{◌≡◌};
+
+    ghost from_gives = { λ _ e. e ≡ no_memory };
+
+    fn from(_fault: AllocFailed<T>) -> ReduceFault {
+        ReduceFault::OutOfMemory
+    }
+}
+
+impl From<OutOfMemory> for CellFault {
+    ghost use Rattle.reduced_rows.specs.declared.faults.CellFault.TheVariants.{OutOfMemory as no_memory};
+    ghost use Rattle.std.specs.Prelude.{◌≡◌};
+
+    ghost from_gives = { λ _ e. e ≡ no_memory };
+
+    fn from(_fault: OutOfMemory) -> CellFault {
+        CellFault::OutOfMemory
+    }
+}
+
+impl From<AllocError> for FromFault {
+    ghost use Rattle.reduced_rows.specs.declared.faults.FromFault.TheVariants.{OutOfMemory as no_memory};
+    ghost use Rattle.std.specs.Prelude.{◌≡◌};
+
+    ghost from_gives = { λ _ e. e ≡ no_memory };
+
+    fn from(_fault: AllocError) -> FromFault {
+        FromFault::OutOfMemory
+    }
+}
+
+impl<T: Drop> From<AllocFailed<T>> for FromFault {
+    ghost use Rattle.reduced_rows.specs.declared.faults.FromFault.TheVariants.{OutOfMemory as no_memory};
+    ghost use Rattle.std.specs.Prelude.{◌≡◌};
+
+    ghost from_gives = { λ _ e. e ≡ no_memory };
+
+    fn from(_fault: AllocFailed<T>) -> FromFault {
+        FromFault::OutOfMemory
+    }
+}
+
+impl From<FromFault> for CellFault {
+    ghost use Rattle.reduced_rows.specs.Conversions.{of_rest};
+    ghost use Rattle.std.specs.Prelude.{◌≡◌};
+
+    ghost from_gives = { λ fault e. e ≡ of_rest fault };
+
+    fn from(fault: FromFault) -> CellFault {
+        match fault {
+            FromFault::Overflow => CellFault::Overflow,
+            FromFault::OutOfMemory => CellFault::OutOfMemory,
+        }
+    }
+}
+
+impl From<ReduceFault> for CellFault {
+    ghost use Rattle.reduced_rows.specs.Conversions.{of_rows};
+    ghost use Rattle.std.specs.Prelude.{◌≡◌};
+
+    ghost from_gives = { λ fault e. e ≡ of_rows fault };
+
+    fn from(fault: ReduceFault) -> CellFault {
+        match fault {
+            ReduceFault::Overflow => CellFault::Overflow,
+            ReduceFault::Dependent { kernel } => CellFault::Dependent { kernel },
+            ReduceFault::OutOfMemory => CellFault::OutOfMemory,
+        }
+    }
 }

@@ -57,10 +57,8 @@ impl Reduced {
     pub fn copy(&self, alloc: Global) -> Result<Reduced, OutOfMemory>
         ensures { IfOk result (λ v. v ≡ self.now) }
     {
-        match copy_rows(alloc, &self.rows) {
-            Ok(rows) => Ok(Reduced { rows }),
-            Err(fault) => Err(fault),
-        }
+        let rows = copy_rows(alloc, &self.rows)?;
+        Ok(Reduced { rows })
     }
 
     /// The number of rows, which is that of the columns that were cleared.
@@ -74,7 +72,9 @@ impl Reduced {
     pub fn row(&self, k: usize) -> &IntVec
         requires first { 1 ≤ k }
         requires last { k ≤ length self.now }
-        ensures { result.now ≡ slice_index_or self.now (k - 1) [] }
+        ensures value { result.now ≡ slice_index_or self.now (k - 1) [] }
+        // Each row has its pivot, 0 in the other columns up to their number, and no common divisor.
+        ensures form { HaveForm self.now }
     {
         &self.rows[k - 1]
     }
@@ -86,6 +86,7 @@ impl Reduced {
         ensures value { result ≡ at (slice_index_or self.now (k - 1) []) (k - 1) }
         ensures fits { FitsWhole result }
         ensures positive { pos 0 <ℤ result }
+        ensures form { HaveForm self.now }
     {
         self.rows[k - 1].get(k - 1)
     }
@@ -99,6 +100,7 @@ impl Reduced {
     {
         lcm_of_pivots(&self.rows)
     }
+
     /// The numbers -(x (den / p)) of the rows, where x is the row's entry in a column, counted from
     /// 0, and p its pivot. Over the denominator `den` they solve for that column. `Overflow` exactly
     /// where a number x (den / p) doesn't fit.
@@ -109,10 +111,9 @@ impl Reduced {
             (λ v. FitsShares column 0 (unsigned_abs den) self.now × (v ≡ shares column 0 (unsigned_abs den) self.now))
             (IsFromFault (FitsShares column 0 (unsigned_abs den) self.now)) }
     {
-        match shares_of(alloc, &self.rows, column, den, 0) {
-            Ok(Some(entries)) => Ok(IntVec::from_vec(entries)),
-            Ok(None) => Err(FromFault::Overflow),
-            Err(_) => Err(FromFault::OutOfMemory),
+        match shares_of(alloc, &self.rows, column, den, 0)? {
+            Some(entries) => Ok(IntVec::from_vec(entries)),
+            None => Err(FromFault::Overflow),
         }
     }
 
@@ -131,12 +132,8 @@ impl Reduced {
             (λ v. FitsShares column 0 (unsigned_abs den) self.now × (v ≡ solutions.scaled_column column 0 (unsigned_abs den) self.now))
             (IsFromFault (FitsShares column 0 (unsigned_abs den) self.now)) }
     {
-        match self.solution(alloc, column, den) {
-            Ok(mut v) => {
-                v.negate();
-                Ok(v)
-            }
-            Err(fault) => Err(fault),
-        }
+        let mut v = self.solution(alloc, column, den)?;
+        v.negate();
+        Ok(v)
     }
 }

@@ -1,4 +1,4 @@
-ghost use Rattle.std.specs.Prelude.{◌≡◌, ◌*ℤ◌, ◌<ℤ◌, ◌≤ℤ◌, pos, unsigned_abs, SomeIff};
+ghost use Rattle.std.specs.Prelude.{◌≡◌, ◌*ℤ◌, ◌<ℤ◌, ◌≤ℤ◌, pos, int_div, unsigned_abs, SomeIff};
 ghost use Prim.Native.Nat.{◌∣◌};
 ghost use Rattle.std.specs.Int.{IsGcd};
 ghost use Rattle.wide_int.specs.Whole.{FitsWhole};
@@ -6,8 +6,9 @@ ghost use Rattle.wide_int.specs.Divisors.{lcm_of, IsLcm};
 
 use crate::checked::product;
 
-// Euclid's remainders.
-fn natural_gcd(a: u128, b: u128) -> u128
+/// The greatest common divisor of two numbers of 64 bits, 0 for 0 and 0.
+#[inline(always)]
+pub fn short_gcd(a: u64, b: u64) -> u64
     ensures { IsGcd a b result }
 {
     let mut x = a;
@@ -18,6 +19,57 @@ fn natural_gcd(a: u128, b: u128) -> u128
         y = rest;
     }
     x
+}
+
+// Euclid's remainders.
+fn wide_gcd(a: u128, b: u128) -> u128
+    ensures { IsGcd a b result }
+{
+    let mut x = a;
+    let mut y = b;
+    while y != 0 {
+        let rest = x % y;
+        x = y;
+        y = rest;
+    }
+    x
+}
+
+// The greatest common divisor, in 64 bits where that is enough.
+fn natural_gcd(a: u128, b: u128) -> u128
+    ensures { IsGcd a b result }
+{
+    match (u64::try_from(a), u64::try_from(b)) {
+        (Ok(x), Ok(y)) => short_gcd(y, x) as u128,
+        _ => wide_gcd(a, b),
+    }
+}
+
+// The quotient of a number by a divisor, in 64 bits.
+fn short_quotient(a: i64, divisor: i64) -> i64
+    requires positive { pos 0 <ℤ divisor }
+    ensures { result ≡ int_div a divisor }
+{
+    a / divisor
+}
+
+// The quotient of two numbers in 128 bits.
+fn wide_quotient(a: i128, divisor: i128) -> i128
+    requires positive { pos 0 <ℤ divisor }
+    ensures { result ≡ int_div a divisor }
+{
+    a / divisor
+}
+
+/// The quotient of two numbers, towards zero.
+pub fn quotient(a: i128, divisor: i128) -> i128
+    requires positive { pos 0 <ℤ divisor }
+    ensures { result ≡ int_div a divisor }
+{
+    match (i64::try_from(a), i64::try_from(divisor)) {
+        (Ok(x), Ok(y)) => short_quotient(x, y) as i128,
+        _ => wide_quotient(a, divisor),
+    }
 }
 
 /// The greatest common divisor, which is 0 for 0 and 0.

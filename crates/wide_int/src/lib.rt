@@ -7,7 +7,7 @@ mod euclid;
 mod fraction;
 
 pub use checked::{checked_mul_sub, difference, product, sum};
-pub use divisors::{exact_quotient, gcd, lcm};
+pub use divisors::{exact_quotient, gcd, lcm, quotient, short_gcd};
 pub use euclid::compare;
 pub use fraction::{Frac, one_form, ordered};
 

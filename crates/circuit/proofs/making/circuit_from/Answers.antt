@@ -1,4 +1,4 @@
-use Rattle.circuit.proofs.Answered.{reduced_widths}
+use Rattle.inner_normal.proofs.CellAnswers.{reduced_widths}
 use Rattle.circuit.proofs.making.circuit_from.Goals as goal
 
 pub of-requires : goal.of-requires

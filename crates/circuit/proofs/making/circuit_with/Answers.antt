@@ -1,4 +1,4 @@
-use Rattle.std.proofs.Common.{rules, ◌-◌, ◌<ℤ◌, pos, subst, arith, FitsSigned, to_z-of_z}
+use Rattle.std.proofs.Common.{rules, ◌-◌, ◌<ℤ◌, pos, subst, arith, ◌∙◌, FitsSigned, to_z-of_z}
 use Rattle.std.specs.Int.{w128}
 use Rattle.circuit.proofs.Meaning.{circuit_however}
 use Rattle.circuit.proofs.making.circuit_with.Goals as goal
@@ -11,10 +11,7 @@ returns-clause-circuit c =
     let b = c.requires.point.1 in
     let den = c.den.ensures.value in
     let positive = c.den.ensures.positive in
-    simp to_z-of_z (λ p e.
+    let e = c.in_ok-coefficients.ensures in
+    simp to_z-of_z (λ p same.
     circuit_however c.args.problem.now c.args.cell.now (c.args.support - 1) c.args.position c.coefficients_at.ensures.valid.shape.problem c.requires.cell (omega (arith, a, b)) q.2
-    c.args.inverse.now c.requires.inverse (subst (λ z. pos 0 <ℤ z) den positive) _ (record {
-      coefficients = c.in_ok-coefficients.ensures.value.1;
-      scale = den;
-      support = omega (arith, a);
-    }) p e)
+    c.args.inverse.now c.requires.inverse (subst (λ z. pos 0 <ℤ z) den positive) _ e.dependency e.count e.last den (omega (arith, a)) p same)

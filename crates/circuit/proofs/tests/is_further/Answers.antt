@@ -3,7 +3,7 @@ use Rattle.std.specs.Prelude.{slice_index_or, IsTrue}
 use Rattle.cayley.specs.Problems.{Point}
 use Rattle.cayley.specs.Cells.{IsOf}
 use Rattle.cayley.proofs.OneCell.CellRows.{InRange}
-use Rattle.circuit.proofs.Reading.{cell_long, pair_read, support_read}
+use Rattle.inner_normal.proofs.Reading.{cell_long, pair_read, support_read}
 use Rattle.circuit.proofs.tests.is_further.Goals as goal
 
 pub bounds-pairs-support : goal.bounds-pairs-support

@@ -9,66 +9,68 @@ use Rattle.cone_walls.specs.Made.{IsMade}
 use Rattle.cone_walls.specs.Places.{AreOfFurtherPoints, HasNumbers}
 use Rattle.cone_walls.specs.Sides.{TellSides, TellSidesAt}
 use Rattle.cone_walls.proofs.Making.{made_fits, made_independent, made_places, made_values, made_sides, made_sides_at, made_dead, made_life}
-use Rattle.cone_walls.proofs.Outcomes.{ok_answer, overflow_answer, dependent_answer, kernel_answer}
+use Rattle.cayley.specs.Rows.{edge_rows}
+use Rattle.cone_walls.specs.Workings.{FitsRest, FitsWallWorking}
+use Rattle.inner_normal.proofs.CellAnswers.{beyond_kernel, ok_answer, overflow_answer, dependent_answer, kernel_answer}
 use Rattle.cone_walls.proofs.walls.walls_of.Goals as goal
 
 pub returns-clause-places : goal.returns-clause-places
 returns-clause-places g c =
     let p = c.args.problem.now in
     let cell = c.args.cell.now in
-    ok_answer (λ (w : Walls). IsMade p cell w.reduced w.normal w.lines.items) p cell (λ (w : Walls). AreOfFurtherPoints p cell w.lines.items)
+    ok_answer (λ (w : Walls). IsMade p cell w.reduced w.normal w.lines.items) (FitsWallWorking p cell) p cell c.dim-dim.ensures.valid.shape.problem c.requires (λ w h. made_fits p cell w.reduced w.normal w.lines.items h) (beyond_kernel p.dimension (edge_rows p cell) (FitsRest p cell)) (λ (w : Walls). AreOfFurtherPoints p cell w.lines.items)
     c.made_walls.result (λ w h. made_places p cell w.reduced w.normal w.lines.items h) c.made_walls.ensures
 
 pub returns-clause-values : goal.returns-clause-values
 returns-clause-values g c =
     let p = c.args.problem.now in
     let cell = c.args.cell.now in
-    ok_answer (λ (w : Walls). IsMade p cell w.reduced w.normal w.lines.items) p cell (λ (w : Walls). Each w.lines.items (HasNumbers p cell w.normal))
+    ok_answer (λ (w : Walls). IsMade p cell w.reduced w.normal w.lines.items) (FitsWallWorking p cell) p cell c.dim-dim.ensures.valid.shape.problem c.requires (λ w h. made_fits p cell w.reduced w.normal w.lines.items h) (beyond_kernel p.dimension (edge_rows p cell) (FitsRest p cell)) (λ (w : Walls). Each w.lines.items (HasNumbers p cell w.normal))
     c.made_walls.result (λ w h. made_values p cell w.reduced w.normal w.lines.items h) c.made_walls.ensures
 
 pub returns-clause-sides : goal.returns-clause-sides
 returns-clause-sides g c =
     let p = c.args.problem.now in
     let cell = c.args.cell.now in
-    ok_answer (λ (w : Walls). IsMade p cell w.reduced w.normal w.lines.items) p cell (λ (w : Walls). (q : Problem) → HasSamePoints q p → TellSidesAt (unperturbed q) cell w.lines.items)
+    ok_answer (λ (w : Walls). IsMade p cell w.reduced w.normal w.lines.items) (FitsWallWorking p cell) p cell c.dim-dim.ensures.valid.shape.problem c.requires (λ w h. made_fits p cell w.reduced w.normal w.lines.items h) (beyond_kernel p.dimension (edge_rows p cell) (FitsRest p cell)) (λ (w : Walls). (q : Problem) → HasSamePoints q p → TellSidesAt (unperturbed q) cell w.lines.items)
     c.made_walls.result (λ w h. made_sides_at p cell w.reduced w.normal w.lines.items h) c.made_walls.ensures
 
 pub returns-clause-all_times : goal.returns-clause-all_times
 returns-clause-all_times g c =
     let p = c.args.problem.now in
     let cell = c.args.cell.now in
-    ok_answer (λ (w : Walls). IsMade p cell w.reduced w.normal w.lines.items) p cell (λ (w : Walls). (q : Problem) → HasSamePoints q p → TellSides (unperturbed q) cell w.lines.items)
+    ok_answer (λ (w : Walls). IsMade p cell w.reduced w.normal w.lines.items) (FitsWallWorking p cell) p cell c.dim-dim.ensures.valid.shape.problem c.requires (λ w h. made_fits p cell w.reduced w.normal w.lines.items h) (beyond_kernel p.dimension (edge_rows p cell) (FitsRest p cell)) (λ (w : Walls). (q : Problem) → HasSamePoints q p → TellSides (unperturbed q) cell w.lines.items)
     c.made_walls.result (λ w h. made_sides p cell w.reduced w.normal w.lines.items h) c.made_walls.ensures
 
 pub returns-clause-dead : goal.returns-clause-dead
 returns-clause-dead g c =
     let p = c.args.problem.now in
     let cell = c.args.cell.now in
-    ok_answer (λ (w : Walls). IsMade p cell w.reduced w.normal w.lines.items) p cell (λ (w : Walls). (q : Problem) → HasSamePoints q p → IsNeverAlive (unperturbed q) cell ↔ IsEntry w.lines.items Dead)
+    ok_answer (λ (w : Walls). IsMade p cell w.reduced w.normal w.lines.items) (FitsWallWorking p cell) p cell c.dim-dim.ensures.valid.shape.problem c.requires (λ w h. made_fits p cell w.reduced w.normal w.lines.items h) (beyond_kernel p.dimension (edge_rows p cell) (FitsRest p cell)) (λ (w : Walls). (q : Problem) → HasSamePoints q p → IsNeverAlive (unperturbed q) cell ↔ IsEntry w.lines.items Dead)
     c.made_walls.result (λ w h. made_dead p cell w.reduced w.normal w.lines.items h) c.made_walls.ensures
 
 pub returns-clause-life : goal.returns-clause-life
 returns-clause-life g c =
     let p = c.args.problem.now in
     let cell = c.args.cell.now in
-    ok_answer (λ (w : Walls). IsMade p cell w.reduced w.normal w.lines.items) p cell (λ (w : Walls). (q : Problem) → HasSamePoints q p → LivesBetween (unperturbed q) cell w.lines.items)
+    ok_answer (λ (w : Walls). IsMade p cell w.reduced w.normal w.lines.items) (FitsWallWorking p cell) p cell c.dim-dim.ensures.valid.shape.problem c.requires (λ w h. made_fits p cell w.reduced w.normal w.lines.items h) (beyond_kernel p.dimension (edge_rows p cell) (FitsRest p cell)) (λ (w : Walls). (q : Problem) → HasSamePoints q p → LivesBetween (unperturbed q) cell w.lines.items)
     c.made_walls.result (λ w h. made_life p cell w.reduced w.normal w.lines.items h) c.made_walls.ensures
 
 pub returns-clause-overflow : goal.returns-clause-overflow
 returns-clause-overflow g c =
     let p = c.args.problem.now in
     let cell = c.args.cell.now in
-    overflow_answer (λ (w : Walls). IsMade p cell w.reduced w.normal w.lines.items) p cell c.made_walls.result (λ w h. made_fits p cell w.reduced w.normal w.lines.items h) c.made_walls.ensures
+    overflow_answer (λ (w : Walls). IsMade p cell w.reduced w.normal w.lines.items) (FitsWallWorking p cell) p cell c.dim-dim.ensures.valid.shape.problem c.requires (λ w h. made_fits p cell w.reduced w.normal w.lines.items h) (beyond_kernel p.dimension (edge_rows p cell) (FitsRest p cell)) c.made_walls.result c.made_walls.ensures
 
 pub returns-clause-dependent : goal.returns-clause-dependent
 returns-clause-dependent g c =
     let p = c.args.problem.now in
     let cell = c.args.cell.now in
-    dependent_answer (λ (w : Walls). IsMade p cell w.reduced w.normal w.lines.items) p cell c.made_walls.result c.dim-dim.ensures.valid.shape.problem c.requires
-    (λ w h. made_independent p cell w.reduced w.normal w.lines.items h) c.made_walls.ensures
+    dependent_answer (λ (w : Walls). IsMade p cell w.reduced w.normal w.lines.items) (FitsWallWorking p cell) p cell c.dim-dim.ensures.valid.shape.problem c.requires (λ w h. made_fits p cell w.reduced w.normal w.lines.items h) (beyond_kernel p.dimension (edge_rows p cell) (FitsRest p cell))
+    (λ w h. made_independent p cell w.reduced w.normal w.lines.items h) c.made_walls.result c.made_walls.ensures
 
 pub returns-clause-kernel : goal.returns-clause-kernel
 returns-clause-kernel g c =
     let p = c.args.problem.now in
     let cell = c.args.cell.now in
-    kernel_answer (λ (w : Walls). IsMade p cell w.reduced w.normal w.lines.items) p cell c.made_walls.result c.dim-dim.ensures.valid.shape.problem c.requires c.made_walls.ensures
+    kernel_answer (λ (w : Walls). IsMade p cell w.reduced w.normal w.lines.items) (FitsWallWorking p cell) p cell c.dim-dim.ensures.valid.shape.problem c.requires (λ w h. made_fits p cell w.reduced w.normal w.lines.items h) (beyond_kernel p.dimension (edge_rows p cell) (FitsRest p cell)) c.made_walls.result c.made_walls.ensures

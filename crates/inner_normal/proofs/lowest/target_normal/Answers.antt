@@ -1,32 +1,17 @@
-use Rattle.std.proofs.Common.{rules, FitsSigned, to_z-of_z, unsigned_abs}
+use Rattle.std.proofs.Common.{rules, FitsSigned, to_z-of_z}
 use Rattle.std.specs.Int.{w128}
-use Rattle.inner_normal.proofs.CommonFactors.{divides_content, lowest_form, lowest_normal}
+use Rattle.inner_normal.specs.LowestForms.{IsLowestForm}
+use Rattle.inner_normal.proofs.CommonFactors.{lowest_normal}
+use Rattle.inner_normal.proofs.FileNormals.{of_file_points}
 use Rattle.inner_normal.proofs.lowest.target_normal.Goals as goal
 
-pub divide-requires-clause-exact : goal.divide-requires-clause-exact
-divide-requires-clause-exact c =
+lowest_of : (c : goal.After-drop-moving) → IsLowestForm c.args.moving.p c.args.moving.den c.in_lowest_terms.result.v c.in_lowest_terms.result.den
+lowest_of c =
     let fd : FitsSigned w128 c.args.moving.den = search rules in
-    let fg : FitsSigned w128 c.common_divisor-g.result = search rules in
-    let d = simp to_z-of_z at c.common_divisor-g.ensures.divisor in
-    simp to_z-of_z (divides_content (unsigned_abs c.common_divisor-g.result) c.args.moving.p d.0)
-
-pub quotient-requires-clause-exact : goal.quotient-requires-clause-exact
-quotient-requires-clause-exact c =
-    let fd : FitsSigned w128 c.args.moving.den = search rules in
-    let fg : FitsSigned w128 c.common_divisor-g.result = search rules in
-    let d = simp to_z-of_z at c.common_divisor-g.ensures.divisor in
-    simp to_z-of_z d.1
-
-pub returns-clause-lowest : goal.returns-clause-lowest
-returns-clause-lowest c =
-    let fd : FitsSigned w128 c.args.moving.den = search rules in
-    let fg : FitsSigned w128 c.common_divisor-g.result = search rules in
-    let fq : FitsSigned w128 c.quotient.result = search rules in
-    let d = simp to_z-of_z at c.common_divisor-g.ensures.divisor in
-    let e = simp to_z-of_z at c.divide.ensures in
-    let q = simp to_z-of_z at c.quotient.ensures in
-    let p = c.common_divisor-g.ensures.positive in
-    simp to_z-of_z (lowest_form c.args.moving.p c.divide.new.self c.args.moving.den c.quotient.result c.common_divisor-g.result d c.requires.positive p e q)
+    simp to_z-of_z at c.in_lowest_terms.ensures
 
 pub returns-clause-normal : goal.returns-clause-normal
-returns-clause-normal c = λ p cell n. lowest_normal p cell c.args.moving c.divide.new.self _ (returns-clause-lowest c) n
+returns-clause-normal c = λ p cell n. lowest_normal p cell c.args.moving _ _ (lowest_of c) n
+
+pub returns-clause-of_file_points : goal.returns-clause-of_file_points
+returns-clause-of_file_points c = λ p cell well of n. lowest_normal p cell c.args.moving _ _ (lowest_of c) (of_file_points p cell c.args.moving well of n)

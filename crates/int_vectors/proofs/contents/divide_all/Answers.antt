@@ -1,6 +1,6 @@
 use Rattle.std.proofs.Common.{◌≡◌, ◌<◌, ◌*ℤ◌, pos, length, get_or, unsigned_abs, int_div, FitsSigned, to_z-of_z, rules, arith, subst}
 use Rattle.std.specs.Int.{w128}
-use Rattle.wide_int.proofs.Dividing.{quot_exact, quotient}
+use Rattle.wide_int.proofs.Dividing.{quot_exact}
 use Rattle.int_vectors.proofs.EntryDivisors.{divides_at}
 use Rattle.int_vectors.proofs.DividingEach.{done_more, left_more, same_left}
 use Rattle.int_vectors.proofs.contents.divide_all.Goals as goal
@@ -19,7 +19,9 @@ loop-x-preserved c =
     let q = int_div (get_or now i (pos 0)) c.args.g in
     let e : c.args.g *ℤ q ≡ get_or old i (pos 0) =
     subst (λ x. c.args.g *ℤ int_div x c.args.g ≡ get_or old i (pos 0)) same (quot_exact (get_or old i (pos 0)) c.args.g (divides_at (unsigned_abs c.args.g) old i lo c.requires.exact)) in
-    rw (quotient (get_or now i (pos 0)) c.args.g fx fg c.requires.positive, to_z-of_z {w = w128} {z = c.args.g} fg) (record {
+    let fq : FitsSigned w128 c.quotient.result = search rules in
+    let d : c.quotient.result ≡ q = simp to_z-of_z at c.quotient.ensures in
+    simp to_z-of_z (rw d (record {
       done = done_more c.args.g q old now i lo ln inv.done e;
       left = left_more q old now i inv.left;
-    })
+    }))

@@ -1,10 +1,10 @@
-use Rattle.std.proofs.Common.{◌<◌, ◌≤◌, ◌∙◌, sym, unsigned_abs, ap, subst, arith, rules, FitsSigned, to_z-of_z}
+use Rattle.std.proofs.Common.{◌<◌, ◌≤◌, ◌∙◌, pos, sym, unsigned_abs, ap, subst, arith, rules, FitsSigned, to_z-of_z}
 use Rattle.std.specs.Int.{w128}
 use Rattle.std.proofs.lemmas.Int.{ints}
 use Rattle.int_vectors.specs.Vectors.{scale}
 use Rattle.int_vectors.specs.Fits.{AllFit}
 use Rattle.int_vectors.specs.Contents.{content, DividesEach}
-use Rattle.int_vectors.proofs.EntryDivisors.{content_is, divided_is, primitive_small}
+use Rattle.int_vectors.proofs.EntryDivisors.{content_is, divided_is, primitive_small, scale-primitive}
 use Rattle.int_vectors.proofs.Fitting.{fits-primitive}
 use Rattle.int_vectors.proofs.contents.make_primitive.Goals as goal
 
@@ -29,3 +29,9 @@ returns-else-g-gt1-clause-value c =
     let t = simp to_z-of_z at c.if-g-gt1.false in
     let p : content c.args.entries.now ≤ 1 = omega (arith, ints, t, c.content-g.ensures.value) in
     sym (primitive_small c.args.entries.now p)
+
+pub returns-then-g-gt1-clause-divided : goal.returns-then-g-gt1-clause-divided
+returns-then-g-gt1-clause-divided c = sym (ap (scale (pos (content c.args.entries.now))) (returns-then-g-gt1-clause-value c) ∙ scale-primitive c.args.entries.now)
+
+pub returns-else-g-gt1-clause-divided : goal.returns-else-g-gt1-clause-divided
+returns-else-g-gt1-clause-divided c = sym (ap (scale (pos (content c.args.entries.now))) (returns-else-g-gt1-clause-value c) ∙ scale-primitive c.args.entries.now)

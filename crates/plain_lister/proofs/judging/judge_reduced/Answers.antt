@@ -30,14 +30,14 @@ returns-in-Some-true c =
     let fd : FitsSigned w128 c.in-Some.den = search rules in
     let s = rw c.dim.ensures.value at (simp to_z-of_z at c.in-Ok.ensures) in
     let u = simp to_z-of_z at c.in-Some-true.ensures in
-    let l = simp to_z-of_z at c.lowest.ensures in
+    let l = simp to_z-of_z at c.in_lowest_terms.ensures in
     let t : IsTrue c.in-Some-true.field-0 = search rules in
     let p = c.args.problem.now in
     let d = c.in-Some.ensures.value in (
       rest_to p c.args.cell.now r.valid r.alone r.of c.args.reduced.now r.reduced c.in-Some.den c.in-Ok.v d.1 s.1 d.0 s.0 u.0,
       (
         mixed_to p c.args.cell.now r.valid r.alone r.of c.args.reduced.now r.reduced c.in-Some.den c.in-Ok.v d.1 s.1 c.in-Some.ensures.positive (u.1.0 t),
-        lowest_normal p c.args.cell.now r.valid r.alone r.of c.args.reduced.now r.reduced c.in-Some.den c.in-Ok.v d.1 s.1 c.in-Some.ensures.positive c.lowest.result.v c.lowest.result.den l,
+        lowest_normal p c.args.cell.now r.valid r.alone r.of c.args.reduced.now r.reduced c.in-Some.den c.in-Ok.v d.1 s.1 c.in-Some.ensures.positive c.in_lowest_terms.result.v c.in_lowest_terms.result.den l,
       ),
     )
 

@@ -6,12 +6,12 @@ use Rattle.reduced_rows.proofs.elimination.eliminate_rows.Goals as goal
 
 pub loop-k-init : goal.loop-k-init
 loop-k-init c =
-    let r = run_init c.args.columns c.args.rows.items c.in-Ok.done.items c.primitive_all.new.rows.items c.in-Ok.ensures.items c.primitive_all.ensures in
+    let r = run_init c.args.columns c.args.rows.items c.in_ok-done.done.items c.primitive_all.new.rows.items c.in_ok-done.ensures.items c.primitive_all.ensures in
     let l = c.requires.lengths in
     record {
       same = r.0;
       fits = r.1;
-      shape = (l.0, l.1, shape_init l.0 c.args.rows.items c.in-Ok.done.items c.primitive_all.new.rows.items l.2 c.in-Ok.ensures.items c.primitive_all.ensures);
+      shape = (l.0, l.1, shape_init l.0 c.args.rows.items c.in_ok-done.done.items c.primitive_all.new.rows.items l.2 c.in_ok-done.ensures.items c.primitive_all.ensures);
     }
 
 pub dependent-requires-clause-pivots : goal.dependent-requires-clause-pivots
@@ -25,10 +25,10 @@ dependent-requires-clause-lengths c =
     let s = c.loop-k.invariant.shape in
     rw c.deref.ensures.value (each_longer s.0 c.loop-k.k c.loop-k.done.items (omega (arith, s.1)) s.2.long_done)
 
-pub returns-in_default-pivot : goal.returns-in_default-pivot
-returns-in_default-pivot c =
+pub returns-in_default : goal.returns-in_default
+returns-in_default c =
     let v = c.loop-k.invariant in
-    run_fault c.args.columns c.loop-k.k c.args.rows.items c.loop-k.done.items c.loop-k.rest.items c.loop-k-test.true v.same v.fits c.dependent.result c.in_default-pivot.ensures
+    run_fault c.args.columns c.loop-k.k c.args.rows.items c.loop-k.done.items c.loop-k.rest.items c.loop-k-test.true v.same v.fits c.dependent.result c.in_default.ensures
     (rw c.deref.ensures.value at c.dependent.ensures)
 
 pub clean_all-requires-clause-place : goal.clean_all-requires-clause-place
@@ -78,7 +78,7 @@ loop-k-preserved c =
     let a = c.if-not-clean_all.ensures in
     let b = c.if-not-clean_all-2.ensures in
     let g = run_go c.args.columns c.loop-k.k c.args.rows.items c.loop-k.done.items c.loop-k.rest.items c.loop-k-test.true v.same v.fits p.0 c.in-Some.by c.pivot.new.rest.items p.1 p.2
-    v.shape.0 c.push.new.self.items c.clean_all-in-loop-k.new.rows.items v.shape.2 a.0 b.0 (c.in_default-push.ensures.items ∙ ap (λ l. l ++ c.in-Some.by ∷ []) a.1) b.1 in
+    v.shape.0 c.push.new.self.items c.clean_all-in-loop-k.new.rows.items v.shape.2 a.0 b.0 (c.in_ok-push.ensures.items ∙ ap (λ l. l ++ c.in-Some.by ∷ []) a.1) b.1 in
     record { same = g.0; fits = g.1; shape = (v.shape.0, v.shape.1, g.2) }
 
 pub returns : goal.returns

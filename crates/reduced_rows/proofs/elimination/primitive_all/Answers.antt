@@ -10,6 +10,6 @@ loop-i-preserved c =
     let x = c.index_mut.result.now in
     let e = c.index_mut.ensures.value ∙ map_read primitive old c.loop-i.rows.items c.loop-i.i lt c.loop-i.invariant.done x in
     record {
-      done = map_set primitive old c.loop-i.rows.items c.loop-i.i lt c.loop-i.invariant.done x c.primitive.new.self (c.primitive.ensures ∙ ap primitive e);
+      done = map_set primitive old c.loop-i.rows.items c.loop-i.i lt c.loop-i.invariant.done x c.primitive.new.self (c.primitive.ensures.value ∙ ap primitive e);
       count = c.loop-i.invariant.count;
     }

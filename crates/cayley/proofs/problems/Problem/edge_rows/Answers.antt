@@ -27,10 +27,10 @@ pub rows_of-requires : goal.rows_of-requires
 rows_of-requires c =
     let here = subst (λ (p : Problem). IsOf p c.args.cell.now) (sym c.self.view_is) c.requires in
     record {
-      dim = c.self.invariant.shape.dimension.1;
-      count = ap (length {A = Support}) c.deref.ensures.value ∙ sym (length-map c.self.inside.supports.items (λ (s : Support). map point s.points.items)) ∙ c.self.invariant.shape.problem.supports;
+      dim = c.self.invariant.0.shape.dimension.1;
+      count = ap (length {A = Support}) c.deref.ensures.value ∙ sym (length-map c.self.inside.supports.items (λ (s : Support). map point s.points.items)) ∙ c.self.invariant.0.shape.problem.supports;
       points = subst (λ (ss : List Support). All (λ (s : Support). All (λ (x : StoredPoint). (length x.coords ≡ c.self.inside.dim) × Each x.coords IsCornerCoordinate) s.points.items) ss)
-          (sym c.deref.ensures.value) (stored_points c.self.inside.dim c.self.inside.supports.items c.self.invariant);
+          (sym c.deref.ensures.value) (stored_points c.self.inside.dim c.self.inside.supports.items c.self.invariant.0);
       positions = subst (λ (cell : Cell). AreOf c.deref.result.now cell) (sym c.pairs.ensures.same) (subst (λ (ss : List Support). AreOf ss c.args.cell.now) (sym c.deref.ensures.value) here);
     }
 
@@ -41,12 +41,12 @@ returns c =
     let made = ap₂ (λ ss cell. edge_rows_from c.self.inside.dim 0 (points_of ss) cell) c.deref.ensures.value c.pairs.ensures.same in
     let long = length-map c.self.inside.supports.items (λ (s : Support). map point s.points.items) in
     let pairs = each_pair_long (λ (s : Support). map point s.points.items) _ c.self.inside.supports.items c.args.cell.now here in
-    let count = length-edge_rows c.self.inside.dim 0 (points_of c.self.inside.supports.items) c.args.cell.now (long ∙ pairs) ∙ c.self.invariant.shape.problem.supports ∙ dim in
-    let wide = all_each _ _ (edge_rows_wide c.self.inside.dim 0 (points_of c.self.inside.supports.items) c.args.cell.now c.self.invariant.shape.problem.points here) in
+    let count = length-edge_rows c.self.inside.dim 0 (points_of c.self.inside.supports.items) c.args.cell.now (long ∙ pairs) ∙ c.self.invariant.0.shape.problem.supports ∙ dim in
+    let wide = all_each _ _ (edge_rows_wide c.self.inside.dim 0 (points_of c.self.inside.supports.items) c.args.cell.now c.self.invariant.0.shape.problem.points here) in
     record {
       value = IfOk-weaker c.rows_of.result _ _ (λ rows e. e ∙ made ∙ ap (λ (p : Problem). edge_rows p c.args.cell.now) c.self.view_is) c.rows_of.ensures;
       count = IfOk-weaker c.rows_of.result _ _ (λ rows e. ap (length {A = List ℤ}) (e ∙ made) ∙ count) c.rows_of.ensures;
       widths = IfOk-weaker c.rows_of.result _ _ (λ rows e. subst (λ (n : ℕ). All (λ (row : List ℤ). length row ≡ 2 * n + 2) rows.items) dim
           (subst (λ (made : List (List ℤ)). All (λ (row : List ℤ). length row ≡ 2 * c.self.inside.dim + 2) made) (sym (e ∙ made)) wide)) c.rows_of.ensures;
-      valid = subst IsValidProblem c.self.view_is c.self.invariant;
+      valid = subst IsValidProblem c.self.view_is c.self.invariant.0;
     }

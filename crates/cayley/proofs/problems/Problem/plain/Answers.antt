@@ -1,4 +1,4 @@
-use Rattle.std.proofs.Common.{◌∙◌, sym, subst}
+use Rattle.std.proofs.Common.{rules, ◌∙◌, sym, subst}
 use Rattle.cayley.specs.Valid.{IsValidProblem}
 use Rattle.cayley.proofs.Lists.Each.{all_each}
 use Rattle.cayley.proofs.OneCell.PlainProblems.{plain_is, plain_valid, few, counts_of, points_of, alike}
@@ -12,7 +12,7 @@ invariant_of-result c =
     let e = alike c.dim.ensures.value
     (c.in_ok-supports.ensures.files ∙ counts_of (λ s. s.items) c.supports.result.now c.args.file.now.supports c.supports.ensures.value)
     (c.in_ok-supports.ensures.points ∙ points_of (λ s. s.items) c.supports.result.now c.args.file.now.supports c.supports.ensures.value) in
-    subst IsValidProblem (sym e) (plain_valid c.args.file.now c.dim.ensures.valid)
+    (subst IsValidProblem (sym e) (plain_valid c.args.file.now c.dim.ensures.valid), (let h = c.farthest-reach.ensures in search (rules, h)))
 
 pub returns : goal.returns
 returns c =

@@ -3,7 +3,7 @@ use Rattle.std.specs.Int.{w128}
 use Rattle.cayley.specs.declared.found.Sign.{Sign}
 use Rattle.cayley.specs.declared.found.Sign.TheVariants.{Plus}
 use Rattle.circuit.specs.Circuits.{sign_of}
-use Rattle.circuit.proofs.PairNumbers.{pair_first, pair_second}
+use Rattle.inner_normal.proofs.PairNumbers.{pair_first, pair_second}
 use Rattle.circuit.proofs.circuits.Circuit.signs.Goals as goal
 
 pub returns : goal.returns

@@ -1,0 +1,13 @@
+use Rattle.std.proofs.Common.{◌≡◌, ◌↔◌, ◌++◌, drop}
+use Rattle.int_vectors.specs.Fits.{AllFit}
+use Rattle.int_vectors.specs.Vectors.{sub}
+use Rattle.inner_normal.specs.Coefficients.{products, coefficients_from}
+use Rattle.inner_normal.proofs.CoefficientSteps.{FitsFrom}
+use Rattle.inner_normal.proofs.coefficients.coefficients.Given as goal
+
+abbrev pub invariant-loop-i : goal.invariant-loop-i
+invariant-loop-i l = record {
+  items : l.made.items ++ coefficients_from l.i l.fn.place l.fn.den (products (sub l.fn.c l.fn.a) (drop l.i l.fn.columns)) ≡ coefficients_from 0 l.fn.place l.fn.den (products (sub l.fn.c l.fn.a) l.fn.columns);
+  fits : FitsFrom 0 l.fn.place l.fn.den (sub l.fn.c l.fn.a) l.fn.columns ↔ FitsFrom l.i l.fn.place l.fn.den (sub l.fn.c l.fn.a) (drop l.i l.fn.columns);
+  all : AllFit l.made.items;
+}
