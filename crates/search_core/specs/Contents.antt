@@ -1,7 +1,6 @@
 -- What a state still stands for, and that it stays the share of the first branch.
 use Rattle.std.specs.Prelude.{◌≡◌, List, [], ◌∷◌, ◌++◌, flat_map, IsPermutation}
-use Rattle.cayley.specs.Problems.{Problem, IsProblem, HasRanks, IsStill}
-use Rattle.cayley.specs.Valid.{IsMoving}
+use Rattle.cayley.specs.Problems.{Problem}
 use Rattle.cayley.specs.Cells.{Cell}
 use Rattle.cayley.specs.Shares.{Branch, GivesShares}
 use Rattle.search_core.specs.declared.branches.CoreBranch.{CoreBranch}
@@ -10,13 +9,6 @@ use Rattle.search_core.specs.declared.branches.Hand.TheVariants.{Empty, Branch a
 use Rattle.search_core.specs.declared.events.Event.{Event}
 use Rattle.search_core.specs.States.{Searcher, State, IsIdle}
 use Rattle.search_core.specs.Runs.{branch_of, IsTrueRun}
-
--- a problem of either version whose file points rest and whose corners have speed 1
-pub record IsStillProblem (p : Problem) : Type 0 where
-  pub problem : IsProblem p
-  pub ranks : HasRanks p
-  pub still : IsStill p
-  pub corners : IsMoving p
 
 -- a hand: the share of each branch in it, or its cell
 abbrev pub held : (Branch → List Cell) → Hand → List Cell

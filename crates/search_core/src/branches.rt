@@ -1,5 +1,8 @@
-ghost use Rattle.std.specs.Prelude.{◌≡◌};
-ghost use Rattle.search_core.specs.Events.{hand_of};
+ghost use Rattle.std.specs.Prelude.{◌≡◌, ◌↔◌, IsTrue};
+ghost use Rattle.cayley.specs.Cells.{Cell as Pairs};
+ghost use Rattle.search_core.specs.declared.branches.CoreBranch.{CoreBranch};
+ghost use Rattle.search_core.specs.declared.branches.Hand.{Hand};
+ghost use Rattle.search_core.specs.Events.{IsFirstChild, hand_of};
 
 use cayley::{Begin, Cell};
 
@@ -37,6 +40,35 @@ pub enum Hand {
     Two(CoreBranch, CoreBranch),
     /// A cell that is to be reported.
     Cell(Cell),
+}
+
+impl Hand {
+    pub fn is_empty(&self) -> bool
+        ensures { IsTrue result ↔ (self.now ≡ Hand.Empty) }
+    {
+        matches!(self, Hand::Empty)
+    }
+
+    // Whether a branch is to be expanded.
+    pub fn has_branch(&self) -> bool
+        ensures { IsTrue result ↔ ((b : CoreBranch) × (self.now ≡ Hand.Branch b)) }
+    {
+        matches!(self, Hand::Branch(_))
+    }
+
+    // Whether a child waits to be offered.
+    pub fn has_child(&self) -> bool
+        ensures { IsTrue result ↔ ((b : CoreBranch) × (rest : Hand) × IsFirstChild self.now b rest) }
+    {
+        matches!(self, Hand::One(_) | Hand::Two(_, _))
+    }
+
+    // Whether a cell is to be reported.
+    pub fn has_cell(&self) -> bool
+        ensures { IsTrue result ↔ ((c : Pairs) × (self.now ≡ Hand.Cell c)) }
+    {
+        matches!(self, Hand::Cell(_))
+    }
 }
 
 // The hand that an expansion leaves.

@@ -1,10 +1,11 @@
-ghost use Rattle.std.specs.Prelude.{◌≡◌, ◌≤◌, ◌↔◌, ◌⊎◌, IsTrue, IfOk, OnOk, IfErr, length};
+ghost use Rattle.std.specs.Prelude.{◌≡◌, ◌≤◌, ◌↔◌, ◌⊎◌, IsTrue, MatchOption, IfOk, OnOk, OnErr, IfErr};
 ghost use Rattle.cayley.specs.Problems.{Problem};
+ghost use Rattle.cayley.specs.Valid.{IsStillProblem};
 ghost use Rattle.search_core.specs.States.{IsSearcher, searcher_at, start_state};
-ghost use Rattle.search_core.specs.Events.{IsEnabled, Follows};
-ghost use Rattle.search_core.specs.Contents.{IsStillProblem, KeepsShare};
+ghost use Rattle.search_core.specs.Events.{IsEnabled, HasEffect, Follows};
+ghost use Rattle.search_core.specs.Contents.{KeepsShare};
 
-use crate::branches::{CoreBranch, Hand};
+use crate::branches::{CoreBranch, CoreOutcome, Hand};
 use crate::events::{Event, StepFault};
 use crate::searchers::Searcher;
 use cayley::Cell;
@@ -45,7 +46,114 @@ impl Core {
         ensures start { IfOk result (λ core. core ≡ start_state searchers branch) }
         ensures kept { (p : Problem) → IsStillProblem p → KeepsShare p (start_state searchers branch) branch }
     {
-        Err(OutOfMemory)
+        Core::started(alloc, searchers, branch)
+    }
+
+    fn started(alloc: Global, searchers: u32, branch: CoreBranch) -> Result<Core, OutOfMemory>
+        requires { 1 ≤ searchers }
+        ensures { IfOk result (λ core. core ≡ start_state searchers branch) }
+    {
+        let mut first = Searcher::idle(alloc);
+        first.open(branch)?;
+        let Ok(mut all) = Vec::with_capacity(alloc, searchers as usize) else {
+            return Err(OutOfMemory);
+        };
+        all.push_reserved(first);
+        for _turn in 1..searchers {
+            all.push_reserved(Searcher::idle(alloc));
+        }
+        Ok(Core { searchers: all })
+    }
+
+    // The searcher with this number, if there is one.
+    fn searcher(&self, s: u32) -> Option<&Searcher>
+        ensures { MatchOption result (¬ (IsSearcher self.now s)) (λ x. IsSearcher self.now s × (x.now ≡ searcher_at self.now s)) }
+    {
+        if 1 <= s && s as usize <= self.searchers.len() {
+            Some(&self.searchers[s as usize - 1])
+        } else {
+            None
+        }
+    }
+
+    fn can_claim(&self, s: u32) -> bool
+        ensures { IsTrue result ↔ IsEnabled self.now (Event.Claim s) }
+    {
+        match self.searcher(s) {
+            Some(own) => own.hand.is_empty() && !own.deque.is_empty(),
+            None => false,
+        }
+    }
+
+    fn can_steal(&self, s: u32, from: u32) -> bool
+        ensures { IsTrue result ↔ IsEnabled self.now (Event.Steal s from) }
+    {
+        match (self.searcher(s), self.searcher(from)) {
+            (Some(own), Some(other)) => from != s && own.hand.is_empty() && !other.deque.is_empty(),
+            _ => false,
+        }
+    }
+
+    fn is_enabled(&self, event: &Event) -> bool
+        ensures { IsTrue result ↔ IsEnabled self.now event.now }
+    {
+        match event {
+            Event::Claim { searcher } => self.can_claim(*searcher),
+            Event::Steal { searcher, from } => self.can_steal(*searcher, *from),
+            Event::Expand {
+                searcher,
+                outcome: _,
+            } => match self.searcher(*searcher) {
+                Some(own) => own.hand.has_branch(),
+                None => false,
+            },
+            Event::Offer { searcher } => match self.searcher(*searcher) {
+                Some(own) => own.hand.has_child(),
+                None => false,
+            },
+            Event::Report { searcher } => match self.searcher(*searcher) {
+                Some(own) => own.hand.has_cell(),
+                None => false,
+            },
+        }
+    }
+
+    fn claim(&mut self, s: u32)
+        requires { IsEnabled self.old (Event.Claim s) }
+        ensures { HasEffect (Event.Claim s) self.old self.new }
+    {
+        self.searchers[s as usize - 1].claim();
+    }
+
+    fn steal(&mut self, s: u32, from: u32)
+        requires { IsEnabled self.old (Event.Steal s from) }
+        ensures { HasEffect (Event.Steal s from) self.old self.new }
+    {
+        let branch = self.searchers[from as usize - 1].give_oldest();
+        self.searchers[s as usize - 1].receive(branch);
+    }
+
+    fn expand(&mut self, s: u32, outcome: CoreOutcome)
+        requires { IsSearcher self.old s }
+        ensures { HasEffect (Event.Expand s outcome) self.old self.new }
+    {
+        self.searchers[s as usize - 1].expand(outcome);
+    }
+
+    fn offer(&mut self, s: u32) -> Result<(), OutOfMemory>
+        requires { IsEnabled self.old (Event.Offer s) }
+        ensures ok { OnOk result (HasEffect (Event.Offer s) self.old self.new) }
+        ensures err { OnErr result (self.new ≡ self.old) }
+    {
+        self.searchers[s as usize - 1].offer()
+    }
+
+    fn report(&mut self, s: u32) -> Result<(), OutOfMemory>
+        requires { IsEnabled self.old (Event.Report s) }
+        ensures ok { OnOk result (HasEffect (Event.Report s) self.old self.new) }
+        ensures err { OnErr result (self.new ≡ self.old) }
+    {
+        self.searchers[s as usize - 1].report()
     }
 
     /// One event.
@@ -58,7 +166,25 @@ impl Core {
         ensures refused { IfErr result (λ fault. ((fault ≡ StepFault.NotEnabled event) ⊎ (fault ≡ StepFault.OutOfMemory event)) × (self.new ≡ self.old)) }
         ensures not_enabled { result ≡ Err (StepFault.NotEnabled event) ↔ ¬ (IsEnabled self.old event) }
     {
-        Err(StepFault::NotEnabled(event))
+        if !self.is_enabled(&event) {
+            return Err(StepFault::NotEnabled(event));
+        }
+        match event {
+            Event::Claim { searcher } => self.claim(searcher),
+            Event::Steal { searcher, from } => self.steal(searcher, from),
+            Event::Expand { searcher, outcome } => self.expand(searcher, outcome),
+            Event::Offer { searcher } => {
+                if self.offer(searcher).is_err() {
+                    return Err(StepFault::OutOfMemory(Event::Offer { searcher }));
+                }
+            }
+            Event::Report { searcher } => {
+                if self.report(searcher).is_err() {
+                    return Err(StepFault::OutOfMemory(Event::Report { searcher }));
+                }
+            }
+        }
+        Ok(())
     }
 
     /// The open branches of searcher s, oldest first.

@@ -2,10 +2,12 @@ ghost use Rattle.std.specs.Prelude.{◌≡◌, ◌≢◌, ◌++◌, ◌∷◌, [
 ghost use Rattle.cayley.specs.Cells.{Cell as Pairs};
 ghost use Rattle.search_core.specs.declared.branches.CoreBranch.{CoreBranch};
 ghost use Rattle.search_core.specs.declared.branches.Hand.{Hand};
+ghost use Rattle.search_core.specs.States.{idle};
 ghost use Rattle.search_core.specs.Events.{IsFirstChild, hand_of};
 
 use crate::branches::{CoreBranch, CoreOutcome, Hand, hand_of};
 use cayley::Cell;
+use std::alloc::Global;
 use std::marker::Model;
 use std::mem;
 use wide_int::OutOfMemory;
@@ -28,6 +30,27 @@ impl Model for Searcher {
 }
 
 impl Searcher {
+    // A searcher that has nothing.
+    pub fn idle(alloc: Global) -> Searcher
+        ensures { result ≡ idle }
+    {
+        Searcher {
+            deque: Vec::new(alloc),
+            hand: Hand::Empty,
+            outs: Vec::new(alloc),
+        }
+    }
+
+    // The branch goes to the back of the deque.
+    pub fn open(&mut self, branch: CoreBranch) -> Result<(), OutOfMemory>
+        ensures { OnOk result (self.new ≡ record self.old { deque = self.old.deque ++ branch ∷ [] }) }
+    {
+        match self.deque.push(branch) {
+            Ok(()) => Ok(()),
+            Err(_refused) => Err(OutOfMemory),
+        }
+    }
+
     // The newest branch goes to the hand.
     pub fn claim(&mut self)
         requires { self.old.deque ≢ [] }
