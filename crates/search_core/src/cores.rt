@@ -1,4 +1,4 @@
-ghost use Rattle.std.specs.Prelude.{◌≡◌, ◌≤◌, ◌↔◌, ◌⊎◌, IsTrue, MatchOption, IfOk, OnOk, OnErr, IfErr};
+ghost use Rattle.std.specs.Prelude.{◌≡◌, ◌≤◌, ◌↔◌, ◌⊎◌, IsTrue, MatchOption, IfOk, OnOk, OnErr, IfErr, length};
 ghost use Rattle.cayley.specs.Problems.{Problem};
 ghost use Rattle.cayley.specs.Valid.{IsStillProblem};
 ghost use Rattle.search_core.specs.States.{IsSearcher, searcher_at, start_state};
@@ -164,6 +164,7 @@ impl Core {
     pub fn step(&mut self, event: Event) -> Result<(), StepFault>
         ensures done { OnOk result (Follows event self.old self.new) }
         ensures refused { IfErr result (λ fault. ((fault ≡ StepFault.NotEnabled event) ⊎ (fault ≡ StepFault.OutOfMemory event)) × (self.new ≡ self.old)) }
+        ensures searchers { length self.new ≡ length self.old }
         ensures not_enabled { result ≡ Err (StepFault.NotEnabled event) ↔ ¬ (IsEnabled self.old event) }
     {
         if !self.is_enabled(&event) {
