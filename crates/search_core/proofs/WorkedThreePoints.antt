@@ -1,5 +1,5 @@
 -- the premises of the core's law are met: two searchers search the path of three points to its end
-use Rattle.std.proofs.Common.{◌≡◌, ℕ, List, [], ◌∷◌, arith, refl, sym, subst, inl, inr}
+use Rattle.std.proofs.Common.{◌≡◌, ◌≢◌, ℕ, ◌<◌, ◌≤◌, List, [], ◌∷◌, length, lit<, lit≤, ap, arith, refl, sym, subst, inl, inr}
 use Rattle.std.proofs.Math.IntN.{pos, negsuc}
 use Rattle.cayley.specs.Cells.{Cell}
 use Rattle.cayley.specs.Lives.Begin.{at_time}
@@ -25,6 +25,19 @@ branch cell begin = record { cell = cell; begin = begin }
 
 abbrev first : CoreBranch
 first = branch start Start
+
+not_nil : (b : CoreBranch) (ds : List CoreBranch) → b ∷ ds ≢ []
+not_nil b ds e = let l = ap length e in omega (arith, l)
+
+-- of two searchers
+one_is : (1 ≤ 1) × (1 ≤ 2)
+one_is = (lit≤ tt, lit≤ tt)
+
+two_is : (1 ≤ 2) × (2 ≤ 2)
+two_is = (lit≤ tt, lit≤ tt)
+
+apart : (m n : ℕ) → m < n → m ≢ n
+apart m n l e = omega (arith, l, e)
 
 -- a true branch, whatever value of the code stands for its time
 stored : (cell : Cell) (begin : StoredBegin) (entry over : _) → begin_of begin ≡ at_time (entry ∷ []) over
@@ -57,67 +70,67 @@ module _ (early late : StoredBegin) (early_is : begin_of early ≡ at_time (negs
     _,
     (
       _,
-      (((omega arith, omega arith), refl, λ e. cc e), ([], first, refl, refl)),
+      ((one_is, refl, not_nil _ _), ([], first, refl, refl)),
       tt,
       (
         _,
-        (((omega arith, omega arith), (first, refl)), refl),
+        ((one_is, (first, refl)), refl),
         (first, refl, (start_early, ((left_is, (right_is, tt)), start_kids.1))),
         (
           _,
-          (((omega arith, omega arith), (branch left early, _, inr (branch right early, refl, refl))), (branch left early, _, inr (branch right early, refl, refl), refl)),
+          ((one_is, (branch left early, _, inr (branch right early, refl, refl))), (branch left early, _, inr (branch right early, refl, refl), refl)),
           tt,
           (
             _,
-            (((omega arith, omega arith), (branch right early, _, inl (refl, refl))), (branch right early, _, inl (refl, refl), refl)),
+            ((one_is, (branch right early, _, inl (refl, refl))), (branch right early, _, inl (refl, refl), refl)),
             tt,
             (
               _,
-              (((omega arith, omega arith), (omega arith, omega arith), (λ e. omega (arith, e)), refl, λ e. cc e), (branch left early, branch right early ∷ [], refl, refl)),
+              ((two_is, one_is, apart 1 2 (lit< tt), refl, not_nil _ _), (branch left early, branch right early ∷ [], refl, refl)),
               tt,
               (
                 _,
-                (((omega arith, omega arith), refl, λ e. cc e), ([], branch right early, refl, refl)),
+                ((one_is, refl, not_nil _ _), ([], branch right early, refl, refl)),
                 tt,
                 (
                   _,
-                  (((omega arith, omega arith), (branch left early, refl)), refl),
+                  ((two_is, (branch left early, refl)), refl),
                   (branch left early, refl, (left_is, ((left_mixed_is, tt), left_kids.1))),
                   (
                     _,
-                    (((omega arith, omega arith), (branch left_mixed late, _, inl (refl, refl))), (branch left_mixed late, _, inl (refl, refl), refl)),
+                    ((two_is, (branch left_mixed late, _, inl (refl, refl))), (branch left_mixed late, _, inl (refl, refl), refl)),
                     tt,
                     (
                       _,
-                      (((omega arith, omega arith), refl, λ e. cc e), ([], branch left_mixed late, refl, refl)),
+                      ((two_is, refl, not_nil _ _), ([], branch left_mixed late, refl, refl)),
                       tt,
                       (
                         _,
-                        (((omega arith, omega arith), (branch left_mixed late, refl)), refl),
+                        ((two_is, (branch left_mixed late, refl)), refl),
                         (branch left_mixed late, refl, (left_mixed_is, left_mixed_is_mixed, refl)),
                         (
                           _,
-                          (((omega arith, omega arith), (left_mixed, refl)), (left_mixed, refl, refl)),
+                          ((two_is, (left_mixed, refl)), (left_mixed, refl, refl)),
                           tt,
                           (
                             _,
-                            (((omega arith, omega arith), (branch right early, refl)), refl),
+                            ((one_is, (branch right early, refl)), refl),
                             (branch right early, refl, (right_is, ((right_mixed_is, tt), right_kids.1))),
                             (
                               _,
-                              (((omega arith, omega arith), (branch right_mixed late, _, inl (refl, refl))), (branch right_mixed late, _, inl (refl, refl), refl)),
+                              ((one_is, (branch right_mixed late, _, inl (refl, refl))), (branch right_mixed late, _, inl (refl, refl), refl)),
                               tt,
                               (
                                 _,
-                                (((omega arith, omega arith), refl, λ e. cc e), ([], branch right_mixed late, refl, refl)),
+                                ((one_is, refl, not_nil _ _), ([], branch right_mixed late, refl, refl)),
                                 tt,
                                 (
                                   _,
-                                  (((omega arith, omega arith), (branch right_mixed late, refl)), refl),
+                                  ((one_is, (branch right_mixed late, refl)), refl),
                                   (branch right_mixed late, refl, (right_mixed_is, right_mixed_is_mixed, refl)),
                                   (
                                     _,
-                                    (((omega arith, omega arith), (right_mixed, refl)), (right_mixed, refl, refl)),
+                                    ((one_is, (right_mixed, refl)), (right_mixed, refl, refl)),
                                     tt,
                                     refl,
                                   ),
