@@ -53,3 +53,11 @@ HasEffect (Report s) old new =
 -- one event: it is enabled, and has its effect
 abbrev pub Follows : Event → State → State → Type 0
 Follows event old new = IsEnabled old event × HasEffect event old new
+
+-- an event that makes a list longer
+abbrev pub IsGrowing : Event → Type 0
+IsGrowing (Claim s) = ⊥
+IsGrowing (Steal s from) = ⊥
+IsGrowing (Expand s outcome) = ⊥
+IsGrowing (Offer s) = Unit {0}
+IsGrowing (Report s) = Unit {0}

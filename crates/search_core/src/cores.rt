@@ -2,7 +2,7 @@ ghost use Rattle.std.specs.Prelude.{◌≡◌, ◌≤◌, ◌↔◌, ◌⊎◌, 
 ghost use Rattle.cayley.specs.Problems.{Problem};
 ghost use Rattle.cayley.specs.Valid.{IsStillProblem};
 ghost use Rattle.search_core.specs.States.{IsSearcher, searcher_at, start_state};
-ghost use Rattle.search_core.specs.Events.{IsEnabled, HasEffect, Follows};
+ghost use Rattle.search_core.specs.Events.{IsEnabled, HasEffect, Follows, IsGrowing};
 ghost use Rattle.search_core.specs.Contents.{KeepsShare};
 
 use crate::branches::{CoreBranch, CoreOutcome, Hand};
@@ -49,6 +49,7 @@ impl Core {
         Core::started(alloc, searchers, branch)
     }
 
+    // The core, searcher by searcher.
     fn started(alloc: Global, searchers: u32, branch: CoreBranch) -> Result<Core, OutOfMemory>
         requires { 1 ≤ searchers }
         ensures { IfOk result (λ core. core ≡ start_state searchers branch) }
@@ -164,6 +165,7 @@ impl Core {
     pub fn step(&mut self, event: Event) -> Result<(), StepFault>
         ensures done { OnOk result (Follows event self.old self.new) }
         ensures refused { IfErr result (λ fault. ((fault ≡ StepFault.NotEnabled event) ⊎ (fault ≡ StepFault.OutOfMemory event)) × (self.new ≡ self.old)) }
+        ensures memory { result ≡ Err (StepFault.OutOfMemory event) → IsGrowing event }
         ensures searchers { length self.new ≡ length self.old }
         ensures not_enabled { result ≡ Err (StepFault.NotEnabled event) ↔ ¬ (IsEnabled self.old event) }
     {
