@@ -14,7 +14,7 @@ use Rattle.cayley.proofs.Life.Exits.{late_children, late_childless}
 use Rattle.cayley.proofs.Life.Targets.{target_law}
 use Rattle.cayley.proofs.Searching.Members.{contains_has}
 use Rattle.cayley.proofs.Searching.Shares.{share_step, no_share, list_has, dec_true_branch}
-use Rattle.cayley.proofs.Searching.Counting.{count, count-append, count_permutation, permutation_counts}
+use Rattle.cayley.proofs.Searching.Counting.{count, count-nil, count-append, count_permutation, permutation_counts}
 use Rattle.search_core.specs.declared.branches.CoreBranch.{CoreBranch}
 use Rattle.search_core.specs.declared.branches.CoreOutcome.{CoreOutcome}
 use Rattle.search_core.specs.declared.branches.CoreOutcome.TheVariants.{Children, Cell as Own, Nothing}
@@ -27,9 +27,6 @@ use Rattle.search_core.specs.States.{Searcher, State, idle, searcher_at, with_se
 use Rattle.search_core.specs.Events.{IsFirstChild, hand_of, Follows}
 use Rattle.search_core.specs.Runs.{branch_of, IsTrueOutcome, IsTrueEvent, IsTrueRun}
 use Rattle.search_core.specs.Contents.{held, content_of, content, all_outs, KeepsShare}
-
-count_nil : (c : Cell) → count c [] ≡ 0
-count_nil c = let a = count-append c [] [] in omega (arith, a)
 
 module _ (share : Branch → List Cell) (c : Cell) where
   -- the shares of the branches of a deque
@@ -69,7 +66,7 @@ module _ (share : Branch → List Cell) (c : Cell) where
       let v = count_searcher y in
       let k = ap (λ k. count c (held share k)) h.0.1 in
       let d = ap (λ ds. count c (open_in ds)) h.1.2 ∙ count_last h.1.0 h.1.1 in
-      let n = count_nil c in
+      let n = count-nil c in
       let w = ap (λ z. count c (content share z)) h.1.3 in
       omega (arith, e, u, v, k, d, n, w)
 
@@ -93,7 +90,7 @@ module _ (share : Branch → List Cell) (c : Cell) where
       let ug = count_searcher g in
       let k = ap (λ k. count c (held share k)) h.0.3 in
       let d = ap (λ ds. count c (open_in ds)) h.1.2 ∙ count-append c (share (branch_of h.1.0)) (open_in h.1.1) in
-      let n = count_nil c in
+      let n = count-nil c in
       let w = ap (λ q. count c (content share q)) h.1.3 in
       omega (arith, e, f, same, ux, uy, uz, ug, k, d, n, w)
 
@@ -114,7 +111,7 @@ module _ (share : Branch → List Cell) (c : Cell) where
   first_child hand rest b (inl h) =
       let i = ap (λ k. count c (held share k)) h.0 in
       let j = ap (λ k. count c (held share k)) h.1 in
-      let n = count_nil c in
+      let n = count-nil c in
       omega (arith, i, j, n)
   first_child hand rest b (inr h) =
       let i = ap (λ k. count c (held share k)) h.1 in
@@ -145,13 +142,13 @@ module _ (share : Branch → List Cell) (c : Cell) where
       let v = count_searcher y in
       let k = ap (λ k. count c (held share k)) h.1.1 in
       let d = count-append c x.outs (h.1.0 ∷ []) in
-      let n = count_nil c in
+      let n = count-nil c in
       let w = ap (λ z. count c (content share z)) h.1.2 in
       omega (arith, e, u, v, k, d, n, w)
 
   -- searchers that have nothing
   count_idle : (n : ℕ) → count c (content share (replicate n idle)) ≡ 0
-  count_idle zero = count_nil c
+  count_idle zero = count-nil c
   count_idle (suc n) = count_idle n
 
   count_start : (searchers : ℕ) (b : CoreBranch) → count c (content share (start_state searchers b)) ≡ count c (share (branch_of b))

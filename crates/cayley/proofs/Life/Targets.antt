@@ -7,7 +7,7 @@ use borrow.Author.Differences.{up, down}
 use native.Mathlib.Decide.{ℕ_discrete, dec_le}
 use Rattle.wide_int.proofs.Ring.{as_D, Ds, same_D, D-pos, neg_mul_ℤ}
 use Rattle.wide_int.proofs.Order.{mul_le_ℤ}
-use Rattle.int_vectors.specs.Vectors.{Each, IsZero, dot, at, at_place, add, sub, scale}
+use Rattle.int_vectors.specs.Vectors.{Each, IsZero, dot, at, add, sub, scale}
 use Rattle.cayley.specs.Times.{Time, time_zero, IsPositive, IsBefore}
 use Rattle.cayley.specs.Problems.{Point, Problem, IsProblem, point_at, file_points}
 use Rattle.cayley.specs.Cells.{Cell, EachPair, IsOf, IsIndependent, IsFurther}
@@ -23,7 +23,8 @@ use Rattle.cayley.proofs.Order.Lexicographic.{positive-same, positive-scale}
 use Rattle.cayley.proofs.Order.Lines.{before_trans}
 use Rattle.cayley.proofs.Order.Lined.{further_cases}
 use Rattle.cayley.proofs.Flipping.Neighbours.{potential, gap-potential}
-use Rattle.cayley.proofs.OneCell.RaisedRanks.{lift, height_lift, IsRankedAs, spread, spread_normal, still_potential, positive_spread, zero_spread}
+use Rattle.cayley.proofs.OneCell.CellLines.{base_of, height-at}
+use Rattle.cayley.proofs.OneCell.RaisedRanks.{resting_value, still_gap, spread, spread_normal, positive_spread, zero_spread}
 use Rattle.cayley.proofs.OneCell.FilePointRanks.{Alike, Alikes, file_points_alike}
 use Rattle.cayley.proofs.Life.Exits.{later_both}
 
@@ -86,10 +87,11 @@ mark-nothing q zero = refl
 mark-nothing q (suc r) = refl
 
 height-first : (t : Time) (p : Point) → at (height t p) 0 ≡ t.over *ℤ p.base +ℤ p.speed *ℤ at t.entries 0
-unfolding lift
-height-first t p =
-    height_lift t p 0 ∙ ap (λ x. x +ℤ p.speed *ℤ at t.entries 0)
-    (at-add ((t.over *ℤ p.base) ∷ []) (mark t.over p.rank) 0 ∙ ap (λ x. t.over *ℤ p.base +ℤ x) (mark-nothing t.over p.rank) ∙ omega (arith, ints))
+unfolding base_of
+height-first t p = height-at t p 0 ∙ ap (λ x. t.over *ℤ x +ℤ p.speed *ℤ at t.entries 0) (at-add (p.base ∷ []) (mark (pos 1) p.rank) 0 ∙ ap (λ x. p.base +ℤ x) (mark-nothing (pos 1) p.rank) ∙ nothing p.base)
+  where
+    nothing : (x : ℤ) → x +ℤ pos 0 ≡ x
+    nothing x = omega (arith, ints)
 
 potential-first : (t : Time) (v : Normal) (p : Point)
     → potential t v p 0 ≡ t.over *ℤ dot p.coordinates (entry 0 v.entries) +ℤ v.over *ℤ (t.over *ℤ p.base +ℤ p.speed *ℤ at t.entries 0)
@@ -163,57 +165,20 @@ alike_from gs (s ∷ supports) (u ∷ us) [] P Q R h w e d = e
 alike_from gs (s ∷ supports) (u ∷ us) (x ∷ cell) P Q R h w e d = (h s u x.0 x.1 w.0 e.0 d.0, alike_from gs supports us cell P Q R h w.1 e.1 d.1)
 
 -- ---- points of speed 0: a gap doesn't change over time
-place_scale : (k : ℕ) (q : ℤ) (e : ℕ) → at (at_place k q) e ≡ q *ℤ at (at_place k (pos 1)) e
-place_scale zero q zero = omega (arith, ints)
-place_scale zero q (suc e) = sym (*ℤ-zero q)
-place_scale (suc k) q zero = sym (*ℤ-zero q)
-place_scale (suc k) q (suc e) = place_scale k q e
-
-mark_scale : (q : ℤ) (r e : ℕ) → at (mark q r) e ≡ q *ℤ at (mark (pos 1) r) e
-mark_scale q zero e = sym (*ℤ-zero q)
-mark_scale q (suc r) e = place_scale (suc r) q e
-
-single_scale : (q b : ℤ) (e : ℕ) → at ((q *ℤ b) ∷ []) e ≡ q *ℤ at ((pos 1 *ℤ b) ∷ []) e
-single_scale q b zero = ap (λ x. q *ℤ x) (omega (arith, ints))
-single_scale q b (suc e) = sym (*ℤ-zero q)
-
-pub lift_scale : (q b : ℤ) (r e : ℕ) → at (lift q b r) e ≡ q *ℤ at (lift (pos 1) b r) e
-unfolding lift
-lift_scale q b r e =
-    at-add ((q *ℤ b) ∷ []) (mark q r) e ∙ ap₂ ◌+ℤ◌ (single_scale q b e) (mark_scale q r e)
-    ∙ ring q (at ((pos 1 *ℤ b) ∷ []) e) (at (mark (pos 1) r) e) ∙ ap (λ x. q *ℤ x) (sym (at-add ((pos 1 *ℤ b) ∷ []) (mark (pos 1) r) e))
+still_zero : (t : Time) (v : Normal) (p q : Point) → p.speed ≡ pos 0 → q.speed ≡ pos 0 → IsZero (gap time_zero v p q) → IsZero (gap t v p q)
+still_zero t v p q sp sq z = zero-at _ (λ e. still_gap t v p q e sp sq ∙ ap (λ x. t.over *ℤ x) (level e) ∙ *ℤ-zero t.over)
   where
-    ring : (q x y : ℤ) → q *ℤ x +ℤ q *ℤ y ≡ q *ℤ (x +ℤ y)
-    ring q x y = rw (as_D q, as_D x, as_D y) (simp Ds (same_D _ _ _ _ (omega arith)))
+    level : (e : ℕ) → resting_value v q e -ℤ resting_value v p e ≡ pos 0
+    level e = let a = still_gap time_zero v p q e sp sq in let b = at-zero (gap time_zero v p q) e z in omega (arith, ints, a, b)
 
-later_potential : (t : Time) (v : Normal) (p : Point) (e : ℕ) → p.speed ≡ pos 0 → potential t v p e ≡ t.over *ℤ potential time_zero v p e
-unfolding potential
-later_potential t v p e s =
-    ap (λ x. t.over *ℤ dot p.coordinates (entry e v.entries) +ℤ v.over *ℤ x) (height_lift t p e ∙ (let k = ap (λ x. x *ℤ at t.entries e) s in let l = lift_scale t.over p.base p.rank e in omega (arith, ints, k, l)))
-    ∙ ring t.over v.over (dot p.coordinates (entry e v.entries)) (at (lift (pos 1) p.base p.rank) e)
-    ∙ ap (λ x. t.over *ℤ x) ((let o = one (dot p.coordinates (entry e v.entries)) in omega (arith, ints, o)) ∙ sym (still_potential v p e s))
+still_positive : (t : Time) (v : Normal) (p q : Point) → p.speed ≡ pos 0 → q.speed ≡ pos 0 → IsPositive (gap time_zero v p q) → IsPositive (gap t v p q)
+still_positive t v p q sp sq h = positive-same (scale t.over (gap time_zero v p q)) _ same (positive-scale t.over (gap time_zero v p q) t.positive h)
   where
-    one : (x : ℤ) → pos 1 *ℤ x ≡ x
-    one x = omega (arith, ints)
+    first : (e : ℕ) → at (gap time_zero v p q) e ≡ resting_value v q e -ℤ resting_value v p e
+    first e = let a = still_gap time_zero v p q e sp sq in omega (arith, ints, a)
 
-    ring : (q d x y : ℤ) → q *ℤ x +ℤ d *ℤ (q *ℤ y) ≡ q *ℤ (x +ℤ d *ℤ y)
-    ring q d x y = rw (as_D q, as_D d, as_D x, as_D y) (simp Ds (same_D _ _ _ _ (omega arith)))
-
-later_gap : (t : Time) (v : Normal) (p q : Point) (e : ℕ) → p.speed ≡ pos 0 → q.speed ≡ pos 0 → at (gap t v p q) e ≡ at (scale t.over (gap time_zero v p q)) e
-later_gap t v p q e sp sq =
-    gap-potential t v p q e ∙ ap₂ ◌-ℤ◌ (later_potential t v q e sq) (later_potential t v p e sp)
-    ∙ ring t.over (potential time_zero v q e) (potential time_zero v p e)
-    ∙ ap (λ x. t.over *ℤ x) (sym (gap-potential time_zero v p q e)) ∙ sym (at-scale t.over (gap time_zero v p q) e)
-  where
-    ring : (q x y : ℤ) → q *ℤ x -ℤ q *ℤ y ≡ q *ℤ (x -ℤ y)
-    ring q x y = rw (as_D q, as_D x, as_D y) (simp Ds (same_D _ _ _ _ (omega arith)))
-
-pub still_zero : (t : Time) (v : Normal) (p q : Point) → p.speed ≡ pos 0 → q.speed ≡ pos 0 → IsZero (gap time_zero v p q) → IsZero (gap t v p q)
-still_zero t v p q sp sq z = zero-at _ (λ e. later_gap t v p q e sp sq ∙ at-scale t.over (gap time_zero v p q) e ∙ ap (λ x. t.over *ℤ x) (at-zero (gap time_zero v p q) e z) ∙ *ℤ-zero t.over)
-
-pub still_positive : (t : Time) (v : Normal) (p q : Point) → p.speed ≡ pos 0 → q.speed ≡ pos 0 → IsPositive (gap time_zero v p q) → IsPositive (gap t v p q)
-still_positive t v p q sp sq h =
-    positive-same (scale t.over (gap time_zero v p q)) _ (λ e. sym (later_gap t v p q e sp sq)) (positive-scale t.over (gap time_zero v p q) t.positive h)
+    same : (e : ℕ) → at (scale t.over (gap time_zero v p q)) e ≡ at (gap t v p q) e
+    same e = at-scale t.over (gap time_zero v p q) e ∙ ap (λ x. t.over *ℤ x) (first e) ∙ sym (still_gap t v p q e sp sq)
 
 -- ---- the cell in the path
 module _ (gs : List ℕ) (p goal : Problem) (cell : Cell) (w : Alikes gs p.supports goal.supports) (ld : p.dimension ≡ goal.dimension) (mixed : IsAlive goal cell time_zero) where

@@ -1,29 +1,18 @@
 -- ranks that are raised without a change of their order: zeros between the entries of a value
 use Rattle.std.proofs.Common.{◌≡◌, ◌⊎◌, ℕ, zero, suc, ◌+◌, List, [], ◌∷◌, map, arith, refl, sym, ap, ap₂, ◌∙◌, inl, inr}
 use Rattle.std.proofs.lemmas.Int.{ints}
-use Rattle.std.proofs.Math.IntN.{ℤ, pos, ◌+ℤ◌, ◌*ℤ◌, *ℤ-zero}
-use Rattle.int_vectors.specs.Vectors.{IsZero, add, scale, dot, at, at_place}
+use Rattle.std.proofs.Math.IntN.{ℤ, pos, ◌+ℤ◌, ◌-ℤ◌, ◌*ℤ◌, *ℤ-zero}
+use Rattle.wide_int.proofs.Ring.{as_D, Ds, same_D}
+use Rattle.int_vectors.specs.Vectors.{IsZero, add, dot, at, at_place}
 use Rattle.cayley.specs.Times.{Time, time_zero, IsPositive}
 use Rattle.cayley.specs.Problems.{Point}
-use Rattle.cayley.specs.Normals.{Normal, mark, height, gap}
+use Rattle.cayley.specs.Normals.{Normal, mark, gap}
 use Rattle.cayley.proofs.Algebra.RowDependencies.{zero-at}
 use Rattle.cayley.proofs.Algebra.RowNormals.{entry, at-zero}
-use Rattle.cayley.proofs.Algebra.ScaledInverse.{at-add, at-scale, dot-zero}
+use Rattle.cayley.proofs.Algebra.ScaledInverse.{dot-zero}
+use Rattle.cayley.proofs.OneCell.CellLines.{base_of, height-at}
 use Rattle.cayley.proofs.Order.Lexicographic.{positive-same}
 use Rattle.cayley.proofs.Flipping.Neighbours.{potential, gap-potential}
-
--- a height in two parts: base and rank, and speed
-unfoldable pub lift : ℤ → ℤ → ℕ → List ℤ
-lift q b r = add ((q *ℤ b) ∷ []) (mark q r)
-
-pub height_lift : (t : Time) (p : Point) (e : ℕ) → at (height t p) e ≡ at (lift t.over p.base p.rank) e +ℤ p.speed *ℤ at t.entries e
-unfolding lift
-height_lift t p e =
-    let a = at-add ((t.over *ℤ p.base) ∷ []) (add (scale p.speed t.entries) (mark t.over p.rank)) e in
-    let b = at-add (scale p.speed t.entries) (mark t.over p.rank) e in
-    let c = at-scale p.speed t.entries e in
-    let d = at-add ((t.over *ℤ p.base) ∷ []) (mark t.over p.rank) e in
-    omega (arith, ints, a, b, c, d)
 
 -- k zeros first
 abbrev pub after_zeros : ℕ → List ℤ → List ℤ
@@ -123,10 +112,9 @@ rank_to gs (suc r) = suc (place_in gs r)
 abbrev pub spread : List ℕ → List ℤ → List ℤ
 spread gs u = stretch (0 ∷ gs) u
 
-stretch_lift : (gs : List ℕ) (q b : ℤ) (r : ℕ) → spread gs (lift q b r) ≡ lift q b (rank_to gs r)
-unfolding lift
-stretch_lift gs q b zero = ap (λ l. (q *ℤ b) ∷ l) (stretch_nothing gs)
-stretch_lift gs q b (suc r) = ap (λ l. (q *ℤ b +ℤ pos 0) ∷ l) (stretch_place gs r q)
+stretch_base : (gs : List ℕ) (b : ℤ) (r : ℕ) → spread gs (add (b ∷ []) (mark (pos 1) r)) ≡ add (b ∷ []) (mark (pos 1) (rank_to gs r))
+stretch_base gs b zero = ap (λ l. b ∷ l) (stretch_nothing gs)
+stretch_base gs b (suc r) = ap (λ l. (b +ℤ pos 0) ∷ l) (stretch_place gs r (pos 1))
 
 -- the same point with another rank
 pub record IsRankedAs (gs : List ℕ) (p q : Point) : Type 0 where
@@ -139,25 +127,41 @@ pub record IsRankedAs (gs : List ℕ) (p q : Point) : Type 0 where
 unfoldable pub spread_normal : List ℕ → Normal → Normal
 spread_normal gs v = record { entries = map (spread gs) v.entries; over = v.over; positive = v.positive }
 
-pub still_potential : (v : Normal) (p : Point) (e : ℕ) → p.speed ≡ pos 0 → potential time_zero v p e ≡ pos 1 *ℤ dot p.coordinates (entry e v.entries) +ℤ v.over *ℤ at (lift (pos 1) p.base p.rank) e
-unfolding potential
-still_potential v p e s =
-    ap (λ x. pos 1 *ℤ dot p.coordinates (entry e v.entries) +ℤ v.over *ℤ x) (height_lift time_zero p e ∙ (let k = ap (λ x. x *ℤ at time_zero.entries e) s in omega (arith, ints, k)))
+-- the value of a point that rests, under a normal
+unfoldable pub resting_value : Normal → Point → ℕ → ℤ
+resting_value v p e = dot p.coordinates (entry e v.entries) +ℤ v.over *ℤ at (base_of p) e
+
+still_potential : (t : Time) (v : Normal) (p : Point) (e : ℕ) → p.speed ≡ pos 0 → potential t v p e ≡ t.over *ℤ resting_value v p e
+unfolding potential resting_value
+still_potential t v p e s =
+    ap (λ x. t.over *ℤ dot p.coordinates (entry e v.entries) +ℤ v.over *ℤ x) (height-at t p e ∙ (let k = ap (λ x. x *ℤ at t.entries e) s in omega (arith, ints, k)))
+    ∙ ring t.over v.over (dot p.coordinates (entry e v.entries)) (at (base_of p) e)
+  where
+    ring : (q d x y : ℤ) → q *ℤ x +ℤ d *ℤ (q *ℤ y) ≡ q *ℤ (x +ℤ d *ℤ y)
+    ring q d x y = rw (as_D q, as_D d, as_D x, as_D y) (simp Ds (same_D _ _ _ _ (omega arith)))
+
+-- so a gap of two of them doesn't change over time
+pub still_gap : (t : Time) (v : Normal) (p q : Point) (e : ℕ) → p.speed ≡ pos 0 → q.speed ≡ pos 0 → at (gap t v p q) e ≡ t.over *ℤ (resting_value v q e -ℤ resting_value v p e)
+still_gap t v p q e sp sq =
+    gap-potential t v p q e ∙ ap₂ ◌-ℤ◌ (still_potential t v q e sq) (still_potential t v p e sp) ∙ ring t.over (resting_value v q e) (resting_value v p e)
+  where
+    ring : (q x y : ℤ) → q *ℤ x -ℤ q *ℤ y ≡ q *ℤ (x -ℤ y)
+    ring q x y = rw (as_D q, as_D x, as_D y) (simp Ds (same_D _ _ _ _ (omega arith)))
 
 -- gaps are spread
 gap_spread : (gs : List ℕ) (v : Normal) (p q p' q' : Point) → IsRankedAs gs p' p → IsRankedAs gs q' q → (e : ℕ) → at (gap time_zero (spread_normal gs v) p' q') e ≡ at (spread gs (gap time_zero v p q)) e
-unfolding Source spread_normal
+unfolding Source spread_normal resting_value base_of
 gap_spread gs v p q p' q' rp rq e = elim (source (0 ∷ gs) e) [
   | inl r ↦
       let k = r.0 in
-      let a = gap-potential time_zero v p q k in
-      let b = gap-potential time_zero (spread_normal gs v) p' q' e in
+      let a = still_gap time_zero v p q k rp.still_too rq.still_too in
+      let b = still_gap time_zero (spread_normal gs v) p' q' e rp.still rq.still in
       let c = here k r.1 p p' rp in
       let d = here k r.1 q q' rq in
       let o = r.1 (gap time_zero v p q) in
       omega (arith, ints, a, b, c, d, o)
   | inr r ↦
-      let b = gap-potential time_zero (spread_normal gs v) p' q' e in
+      let b = still_gap time_zero (spread_normal gs v) p' q' e rp.still rq.still in
       let c = nowhere r p p' rp in
       let d = nowhere r q q' rq in
       let o = r (gap time_zero v p q) in
@@ -168,24 +172,19 @@ gap_spread gs v p q p' q' rp rq e = elim (source (0 ∷ gs) e) [
     entries_here k h [] = refl
     entries_here k h (x ∷ vs) = ap₂ (λ y l. y ∷ l) (h x) (entries_here k h vs)
 
-    lift_is : (p p' : Point) → IsRankedAs gs p' p → at (lift (pos 1) p'.base p'.rank) e ≡ at (spread gs (lift (pos 1) p.base p.rank)) e
-    lift_is p p' r = ap₂ (λ b k. at (lift (pos 1) b k) e) r.base r.rank ∙ ap (λ u. at u e) (sym (stretch_lift gs (pos 1) p.base p.rank))
+    base_is : (p p' : Point) → IsRankedAs gs p' p → at (base_of p') e ≡ at (spread gs (base_of p)) e
+    base_is p p' r = ap₂ (λ b k. at (add (b ∷ []) (mark (pos 1) k)) e) r.base r.rank ∙ ap (λ u. at u e) (sym (stretch_base gs p.base p.rank))
 
-    here : (k : ℕ) → ((u : List ℤ) → at (spread gs u) e ≡ at u k) → (p p' : Point) → IsRankedAs gs p' p → potential time_zero (spread_normal gs v) p' e ≡ potential time_zero v p k
-    here k h p p' r =
-        still_potential (spread_normal gs v) p' e r.still
-        ∙ ap₂ (λ x y. pos 1 *ℤ x +ℤ v.over *ℤ y) (ap₂ dot r.coordinates (entries_here k h v.entries)) (lift_is p p' r ∙ h (lift (pos 1) p.base p.rank))
-        ∙ sym (still_potential v p k r.still_too)
+    here : (k : ℕ) → ((u : List ℤ) → at (spread gs u) e ≡ at u k) → (p p' : Point) → IsRankedAs gs p' p → resting_value (spread_normal gs v) p' e ≡ resting_value v p k
+    here k h p p' r = ap₂ (λ x y. x +ℤ v.over *ℤ y) (ap₂ dot r.coordinates (entries_here k h v.entries)) (base_is p p' r ∙ h (base_of p))
 
     entries_nowhere : ((u : List ℤ) → at (spread gs u) e ≡ pos 0) → (vs : List (List ℤ)) → IsZero (entry e (map (spread gs) vs))
     entries_nowhere h [] = tt
     entries_nowhere h (x ∷ vs) = (h x, entries_nowhere h vs)
 
-    nowhere : ((u : List ℤ) → at (spread gs u) e ≡ pos 0) → (p p' : Point) → IsRankedAs gs p' p → potential time_zero (spread_normal gs v) p' e ≡ pos 0
+    nowhere : ((u : List ℤ) → at (spread gs u) e ≡ pos 0) → (p p' : Point) → IsRankedAs gs p' p → resting_value (spread_normal gs v) p' e ≡ pos 0
     nowhere h p p' r =
-        still_potential (spread_normal gs v) p' e r.still
-        ∙ ap₂ (λ x y. pos 1 *ℤ x +ℤ v.over *ℤ y) (dot-zero p'.coordinates _ (entries_nowhere h v.entries)) (lift_is p p' r ∙ h (lift (pos 1) p.base p.rank))
-        ∙ (let z = *ℤ-zero v.over in omega (arith, ints, z))
+        ap₂ (λ x y. x +ℤ v.over *ℤ y) (dot-zero p'.coordinates _ (entries_nowhere h v.entries)) (base_is p p' r ∙ h (base_of p)) ∙ (let z = *ℤ-zero v.over in omega (arith, ints, z))
 
 pub positive_spread : (gs : List ℕ) (v : Normal) (p q p' q' : Point) → IsRankedAs gs p' p → IsRankedAs gs q' q → IsPositive (gap time_zero v p q) → IsPositive (gap time_zero (spread_normal gs v) p' q')
 positive_spread gs v p q p' q' rp rq h =
