@@ -3,13 +3,12 @@ use Rattle.std.proofs.Common.{◌≡◌, ℕ, zero, suc, ◌+◌, ◌-◌, ◌<�
 use Rattle.std.specs.Prelude.{IsPermutation, flat_map, slice_index_or, slice_set, replicate}
 use Rattle.std.proofs.lemmas.Grind.{flat_map-append}
 use Rattle.std.proofs.lemmas.List.{get_or-set_other, length-set}
-use Rattle.int_vectors.specs.Vectors.{Each}
-use Rattle.cayley.specs.Problems.{Problem, IsProblem}
+use Rattle.cayley.specs.Problems.{Problem}
 use Rattle.cayley.specs.Valid.{IsStillProblem}
 use Rattle.cayley.specs.Cells.{Cell}
 use Rattle.cayley.specs.Mixed.{IsMixedCell}
 use Rattle.cayley.specs.Parents.{IsParent}
-use Rattle.cayley.specs.Shares.{Branch, IsTrueBranch, IsChildren, GivesShares}
+use Rattle.cayley.specs.Shares.{Branch, IsChildren, GivesShares}
 use Rattle.cayley.proofs.Life.Exits.{late_children, late_childless}
 use Rattle.cayley.proofs.Life.Targets.{target_law}
 use Rattle.cayley.proofs.Searching.Members.{contains_has}
@@ -20,7 +19,7 @@ use Rattle.search_core.specs.declared.branches.CoreOutcome.{CoreOutcome}
 use Rattle.search_core.specs.declared.branches.CoreOutcome.TheVariants.{Children, Cell as Own, Nothing}
 use Rattle.search_core.specs.declared.branches.Children2.TheVariants.{One as OneChild, Two as TwoChildren}
 use Rattle.search_core.specs.declared.branches.Hand.{Hand}
-use Rattle.search_core.specs.declared.branches.Hand.TheVariants.{Empty, Branch as Holding, One, Two, Cell as Finished}
+use Rattle.search_core.specs.declared.branches.Hand.TheVariants.{Empty, Branch as Holding}
 use Rattle.search_core.specs.declared.events.Event.{Event}
 use Rattle.search_core.specs.declared.events.Event.TheVariants.{Claim, Steal, Expand, Offer, Report}
 use Rattle.search_core.specs.States.{Searcher, State, idle, searcher_at, with_searcher, start_state, IsIdle}

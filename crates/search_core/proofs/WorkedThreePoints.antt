@@ -4,7 +4,7 @@ use Rattle.std.proofs.Math.IntN.{pos, negsuc}
 use Rattle.cayley.specs.Cells.{Cell}
 use Rattle.cayley.specs.Lives.Begin.{at_time}
 use Rattle.cayley.specs.Mixed.{IsMixedCell}
-use Rattle.cayley.specs.Shares.{Branch, IsTrueBranch, IsChildren, GivesShares}
+use Rattle.cayley.specs.Shares.{Branch, IsTrueBranch, GivesShares}
 use Rattle.cayley.specs.Begins.{begin_of}
 use Rattle.cayley.specs.declared.found.Begin.{Begin as StoredBegin}
 use Rattle.cayley.specs.declared.found.Begin.TheVariants.{Start, At}

@@ -1,5 +1,5 @@
 -- What a state still stands for, and that it stays the share of the first branch.
-use Rattle.std.specs.Prelude.{◌≡◌, List, [], ◌∷◌, ◌++◌, flat_map, IsPermutation}
+use Rattle.std.specs.Prelude.{List, [], ◌∷◌, ◌++◌, flat_map, IsPermutation}
 use Rattle.cayley.specs.Problems.{Problem}
 use Rattle.cayley.specs.Cells.{Cell}
 use Rattle.cayley.specs.Shares.{Branch, GivesShares}

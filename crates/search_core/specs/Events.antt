@@ -1,5 +1,5 @@
 -- Events: where each is enabled, and what it makes of a state.
-use Rattle.std.specs.Prelude.{◌≡◌, ◌≢◌, ◌⊎◌, ℕ, List, [], ◌∷◌, ◌++◌}
+use Rattle.std.specs.Prelude.{◌≡◌, ◌≢◌, ◌⊎◌, List, [], ◌∷◌, ◌++◌}
 use Rattle.cayley.specs.Cells.{Cell}
 use Rattle.search_core.specs.declared.branches.CoreBranch.{CoreBranch}
 use Rattle.search_core.specs.declared.branches.CoreOutcome.{CoreOutcome}
@@ -9,7 +9,7 @@ use Rattle.search_core.specs.declared.branches.Hand.{Hand}
 use Rattle.search_core.specs.declared.branches.Hand.TheVariants.{Empty, Branch, One, Two, Cell as Finished}
 use Rattle.search_core.specs.declared.events.Event.{Event}
 use Rattle.search_core.specs.declared.events.Event.TheVariants.{Claim, Steal, Expand, Offer, Report}
-use Rattle.search_core.specs.States.{Searcher, State, IsSearcher, searcher_at, with_searcher}
+use Rattle.search_core.specs.States.{State, IsSearcher, searcher_at, with_searcher}
 
 -- b is the first child that waits in the hand, and rest is the hand without it
 abbrev pub IsFirstChild : Hand → CoreBranch → Hand → Type 0

@@ -1,5 +1,5 @@
 -- Runs: lists of events, and when the outcomes in them are true.
-use Rattle.std.specs.Prelude.{◌≡◌, ◌⊎◌, List, [], ◌∷◌, map}
+use Rattle.std.specs.Prelude.{◌≡◌, ◌⊎◌, List, [], ◌∷◌}
 use Rattle.cayley.specs.Problems.{Problem}
 use Rattle.cayley.specs.Cells.{Cell}
 use Rattle.cayley.specs.Mixed.{IsMixedCell}
