@@ -6,4 +6,4 @@ pub mod Flipping
 pub mod Life
 pub mod Searching
 pub mod Refusals
-mod Worked
+pub mod Worked

@@ -8,3 +8,4 @@ pub mod Ties
 pub mod Crossings
 pub mod Walls
 pub mod LifeLaws
+pub mod Targets

@@ -15,3 +15,5 @@ pub mod Unperturbed
 pub mod CellRows
 pub mod RestingGaps
 pub mod PutPairs
+pub mod RaisedRanks
+pub mod FilePointRanks

@@ -3,4 +3,4 @@ pub mod Paths
 mod Squares
 mod OnePoint
 mod LevelPoints
-mod ThreePoints
+pub mod ThreePoints

@@ -2,6 +2,7 @@
 use Rattle.std.specs.Prelude.{◌≡◌, ◌⊎◌, ◌↔◌, ℕ, suc, List, [], ◌++◌, flat_map, IsPermutation, sum_by}
 use Rattle.cayley.specs.Times.{Time, IsBefore, IsSameTime}
 use Rattle.cayley.specs.Problems.{Problem, IsProblem}
+use Rattle.cayley.specs.Valid.{IsStillProblem}
 use Rattle.cayley.specs.Cells.{Cell, IsLess}
 use Rattle.cayley.specs.Mixed.{IsAlive, IsMixedCell}
 use Rattle.cayley.specs.Lives.{AliveEarly, AliveLate, BeginsAt, EndsAt}
@@ -55,3 +56,7 @@ OneShare = (p : Problem) (b : Branch)
     → ((xs ys : List Cell) → IsShare p b xs → IsShare p b ys → xs ≡ ys)
     × ((m n : ℕ) → IsSize p b m → IsSize p b n → m ≡ n)
     × (¬ (IsTrueBranch p b) → IsShare p b [] × IsSize p b 0)
+
+-- in a still problem a mixed cell of the target is alive at all late times: file points rest, and every corner rises
+abbrev pub TargetLaw : Type 0
+TargetLaw = (p : Problem) (cell : Cell) → IsStillProblem p → IsMixedCell p cell → AliveLate p cell

@@ -65,6 +65,13 @@ IsWithinCorners x = Each x.coordinates IsCornerCoordinate × IsCornerBase x.base
 abbrev pub IsMoving : Problem → Type 0
 IsMoving p = EachSupport 1 p.files p.supports (λ i f s. Each (drop f s) (λ (x : Point). x.speed ≡ pos 1))
 
+-- a problem of either version whose file points rest and whose corners have speed 1
+pub record IsStillProblem (p : Problem) : Type 0 where
+  pub problem : IsProblem p
+  pub ranks : HasRanks p
+  pub still : IsStill p
+  pub corners : IsMoving p
+
 -- dimension, counts, lengths and speeds of a problem
 pub record HasProblemShape (p : Problem) : Type 0 where
   pub dimension : (1 ≤ p.dimension) × (p.dimension ≤ 16)

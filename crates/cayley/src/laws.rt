@@ -2,7 +2,7 @@
 
 ghost use Rattle.cayley.specs.Laws.{OneNormal, AliveByAnyNormal, OneLowestNormal, OneDependency, Exchange, SameTimes};
 ghost use Rattle.cayley.specs.FlipLaws.{FlipLaw, ChildrenLaw, FlipRule, PredecessorRule};
-ghost use Rattle.cayley.specs.LifeLaws.{LifeLaw, OnceLaw, ParentLaw, ChildLaw, TieFreeLaw, ShareLaw, OneShare};
+ghost use Rattle.cayley.specs.LifeLaws.{LifeLaw, OnceLaw, ParentLaw, ChildLaw, TieFreeLaw, ShareLaw, OneShare, TargetLaw};
 ghost use Rattle.cayley.specs.Computed.{AllComputed, ChainLaw};
 
 /// An independent cell has exactly one normal at every time.
@@ -98,4 +98,9 @@ pub fn share_law()
 /// A branch has one share and one size.
 pub fn one_share()
     ensures { OneShare }
+{}
+
+/// In a still problem a mixed cell of the target is alive at all late times (in outline after Huber and Sturmfels 1995).
+pub fn target_law()
+    ensures { TargetLaw }
 {}

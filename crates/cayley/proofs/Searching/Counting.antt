@@ -54,7 +54,7 @@ pub count-append : (c : Cell) (xs ys : List Cell) → count c (xs ++ ys) ≡ cou
 unfolding count
 count-append c xs ys = sum_by-append (is_at c) xs ys
 
-count-nil : (y : Cell) → count y [] ≡ 0
+pub count-nil : (y : Cell) → count y [] ≡ 0
 unfolding count
 count-nil y = refl
 

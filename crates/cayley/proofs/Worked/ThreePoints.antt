@@ -8,17 +8,18 @@ use Rattle.cayley.specs.Problems.{Point, Problem, IsProblem, point_at, file_poin
 use Rattle.cayley.specs.Problems.Version.{version1}
 use Rattle.cayley.specs.Files.{FilePoint, File}
 use Rattle.cayley.specs.Paths.{path, start_cell}
+use Rattle.cayley.specs.Valid.{IsStillProblem}
 use Rattle.cayley.specs.Cells.{Cell, EachPair, IsOf, IsIndependent, IsLess, IsListOf}
 use Rattle.cayley.specs.Normals.{Normal, IsNormal}
 use Rattle.cayley.specs.Mixed.{IsAlive, IsMixedCell}
 use Rattle.cayley.specs.Lives.{AliveJustBefore, AliveEarly, AliveLate}
-use Rattle.cayley.specs.Lives.Begin.{at_start}
+use Rattle.cayley.specs.Lives.Begin.{at_start, at_time}
 use Rattle.cayley.specs.Parents.{IsParent, InChain, IsInTree}
 use Rattle.cayley.specs.Parents.InChain.{here, up}
-use Rattle.cayley.specs.Shares.{Branch, IsShare, IsSize}
+use Rattle.cayley.specs.Shares.{Branch, IsTrueBranch, IsChildren, IsShare, IsSize}
 use Rattle.cayley.specs.Dependencies.{Numbers, total, support_at, IsPositiveDependency}
 use Rattle.cayley.specs.Ties.{IsLevelAt}
-use Rattle.cayley.specs.Flips.{IsOnlyLevel, IsLeastPredecessor}
+use Rattle.cayley.specs.Flips.{IsOnlyLevel, IsLeastPredecessor, Flips}
 use Rattle.cayley.proofs.Order.Lined.{Lined, early_from, early_nowhere}
 use Rattle.cayley.proofs.Life.Decisions.{lined_cell}
 use Rattle.cayley.proofs.OneCell.MovingNormals.{Moving, moving, IsFrame, lined_frame, moving_normal, ahead_signs, late_signs}
@@ -27,6 +28,7 @@ use Rattle.cayley.proofs.Searching.Listing.{Has}
 use Rattle.cayley.proofs.Searching.Members.{contains_has, has_contains}
 use Rattle.cayley.proofs.Searching.FilePoints.{file_points_well}
 use Rattle.cayley.proofs.OneCell.OneNormal.{all_above_any}
+use Rattle.cayley.proofs.Flipping.FlipPlaces.{flip_law}
 use Rattle.cayley.proofs.Flipping.FlipChildren.{children_law}
 use Rattle.cayley.proofs.Life.LifeLaws.{child_law}
 
@@ -449,3 +451,63 @@ three_share = (
     (λ h. has_contains mixed cell (mixed_has cell h.1)),
   ),
 )
+
+-- ---- the branches of the tree: the cells begin at -2 and 0
+abbrev pub left_branch : Branch
+left_branch = record { cell = left; begin = at_time (negsuc 1 ∷ []) (pos 1) }
+
+abbrev pub right_branch : Branch
+right_branch = record { cell = right; begin = at_time (negsuc 1 ∷ []) (pos 1) }
+
+abbrev pub left_mixed_branch : Branch
+left_mixed_branch = record { cell = left_mixed; begin = at_time (pos 0 ∷ []) (pos 1) }
+
+abbrev pub right_mixed_branch : Branch
+right_mixed_branch = record { cell = right_mixed; begin = at_time (pos 0 ∷ []) (pos 1) }
+
+start_flips : Flips three start 0 2 (negsuc 1, negsuc 0) start_time
+start_flips = flip_law three start 0 2 start_numbers start_time start_normal three_well start_before start_is_normal start_only start_dependency
+
+pub left_true : IsTrueBranch three left_branch
+left_true = (start_time, refl, refl, start_flips.begins left (inl (refl, omega (arith, ints))))
+
+pub right_true : IsTrueBranch three right_branch
+right_true = (start_time, refl, refl, start_flips.begins right (inr (refl, omega (arith, ints))))
+
+pub left_mixed_true : IsTrueBranch three left_mixed_branch
+left_mixed_true =
+    (left_time, refl, refl, (flip_law three left 0 1 left_numbers left_time left_normal three_well left_before left_is_normal left_only left_dependency).begins left_mixed (inl (refl, omega (arith, ints))))
+
+pub right_mixed_true : IsTrueBranch three right_mixed_branch
+right_mixed_true =
+    (right_time, refl, refl, (flip_law three right 0 3 right_numbers right_time right_normal three_well right_before right_is_normal right_only right_dependency).begins right_mixed (inl (refl, omega (arith, ints))))
+
+-- ---- the children of each cell
+pub start_kids : IsChildren three start (left_branch ∷ right_branch ∷ [])
+start_kids = ((left_true, (right_true, tt)), ((inr (refl, inl (omega arith)), tt), λ tau. ((λ h. (start_children tau).1 (one_of tau (contains_has (left ∷ right ∷ []) tau h))), (λ h. has_contains (left ∷ right ∷ []) tau (among tau ((start_children tau).0 h))))))
+  where
+    one_of : (tau : Cell) → Has tau (left ∷ right ∷ []) → (tau ≡ left) ⊎ (tau ≡ right)
+    one_of tau (inl e) = inl e
+    one_of tau (inr (inl e)) = inr e
+    one_of tau (inr (inr e)) = absurd e
+
+    among : (tau : Cell) → (tau ≡ left) ⊎ (tau ≡ right) → Has tau (left ∷ right ∷ [])
+    among tau (inl e) = inl e
+    among tau (inr e) = inr (inl e)
+
+only_child : (sigma child : Cell) → ((tau : Cell) → IsParent three sigma tau ↔ (tau ≡ child)) → IsListOf (λ tau. IsParent three sigma tau) (child ∷ [])
+only_child sigma child is = (tt, λ tau. ((λ h. (is tau).1 (the_one tau (contains_has (child ∷ []) tau h))), (λ h. has_contains (child ∷ []) tau (inl ((is tau).0 h)))))
+  where
+    the_one : (tau : Cell) → Has tau (child ∷ []) → tau ≡ child
+    the_one tau (inl e) = e
+    the_one tau (inr e) = absurd e
+
+pub left_kids : IsChildren three left (left_mixed_branch ∷ [])
+left_kids = ((left_mixed_true, tt), only_child left left_mixed left_children)
+
+pub right_kids : IsChildren three right (right_mixed_branch ∷ [])
+right_kids = ((right_mixed_true, tt), only_child right right_mixed right_children)
+
+-- ---- the file points rest, and the corners have speed 1
+pub three_still : IsStillProblem three
+three_still = record { problem = three_well; ranks = refl; still = ((refl, (refl, (refl, tt))), tt); corners = ((refl, (refl, tt)), tt) }

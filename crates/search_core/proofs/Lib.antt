@@ -1,0 +1,3 @@
+mod Starting
+pub mod Keeping
+mod WorkedThreePoints
