@@ -6,7 +6,8 @@ use Rattle.std.proofs.lemmas.List.{map-set, length-map, get_or-map, map-append}
 use Rattle.std.proofs.Common.{length-append}
 use Rattle.std.proofs.lemmas.List.Concat.{flat_map-append}
 use Rattle.std.proofs.lemmas.List.Sorted.{IsPermutation-trans, IsPermutation-append_left, IsPermutation-append_right, IsPermutation-append_comm}
-use Rattle.branch_pool.specs.Seats.{added}
+use Rattle.branch_pool.specs.Parts.{added}
+use Rattle.branch_pool.proofs.Balance.{exchange}
 
 pub last_taken : {X : Type 0} (xs ys : List X) (x : X) → xs ++ x ∷ [] ≡ take (suc (length xs)) ys → (xs ≡ take (length xs) ys) × ((d : X) → get_or ys (length xs) d ≡ x)
 last_taken [] [] x e = absurd (let n : 1 ≡ 0 = ap length e in omega (arith, n))
@@ -46,19 +47,14 @@ parts_more f h ws xs ys p i w d total more at lt now old =
     ∙ ap (added (map f ws)) (sym (ap (map h) more ∙ map-append h xs (p ∷ []))) ∙ old
 
 module _ {B : Type 0} where
-  pub turned : (a b c : List B) → IsPermutation (a ++ (b ++ c)) (b ++ (a ++ c))
-  turned a b c =
-      let p : IsPermutation ((a ++ b) ++ c) ((b ++ a) ++ c) = IsPermutation-append_left c (a ++ b) (b ++ a) (IsPermutation-append_comm a b) in
-      subst (λ (l : List B). IsPermutation (a ++ (b ++ c)) l) (append_assoc b a c) (subst (λ (l : List B). IsPermutation l ((b ++ a) ++ c)) (append_assoc a b c) p)
-
   -- one element's list grows
   pub grown : {X : Type 0} (f : X → List B) (ws : List X) (i : ℕ) (w d : X) (t : List B) → i < length ws → f w ≡ f (get_or ws i d) ++ t → IsPermutation (t ++ flat_map f ws) (flat_map f (set ws i w))
   grown f [] i w d t lt more = absurd (omega arith)
   grown f (x ∷ xs) zero w d t lt more =
       subst (λ (l : List B). IsPermutation (t ++ (f x ++ flat_map f xs)) (l ++ flat_map f xs)) (sym more)
-      (subst (λ (l : List B). IsPermutation (t ++ (f x ++ flat_map f xs)) l) (sym (append_assoc (f x) t (flat_map f xs))) (turned t (f x) (flat_map f xs)))
+      (subst (λ (l : List B). IsPermutation (t ++ (f x ++ flat_map f xs)) l) (sym (append_assoc (f x) t (flat_map f xs))) (exchange t (f x) (flat_map f xs)))
   grown f (x ∷ xs) (suc i) w d t lt more =
-      IsPermutation-trans _ _ _ (turned t (f x) (flat_map f xs)) (IsPermutation-append_right (f x) _ _ (grown f xs i w d t (omega arith) more))
+      IsPermutation-trans _ _ _ (exchange t (f x) (flat_map f xs)) (IsPermutation-append_right (f x) _ _ (grown f xs i w d t (omega arith) more))
 
   -- what stood at the end of the one is now in the other
   pub moved_over : (start a a' x y t : List B) → y ≡ x ++ t → IsPermutation (t ++ a) a' → IsPermutation start (a ++ y) → IsPermutation start (a' ++ x)

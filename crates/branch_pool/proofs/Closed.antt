@@ -1,14 +1,15 @@
 -- All seats of a pool, in order, and what they offered and took together.
-use Rattle.std.proofs.Common.{◌≡◌, ℕ, zero, suc, ◌<◌, ◌≤◌, ◌+◌, min, List, [], ◌∷◌, ◌++◌, map, length, get_or, set, drop, reverse, refl, ap, sym, ◌∙◌, arith, cond, ◌==◌, subst, append_assoc}
+use Rattle.std.proofs.Common.{◌≡◌, ℕ, zero, suc, ◌<◌, ◌≤◌, ◌+◌, ◌-◌, min, List, [], ◌∷◌, ◌++◌, map, length, get_or, set, drop, reverse, refl, ap, sym, ◌∙◌, arith, cond, ◌==◌, subst, append_assoc}
 use Rattle.std.specs.Prelude.{IsPermutation}
 use Rattle.std.specs.List.{flat_map, range_with_len, sum_by, swap}
 use Rattle.std.proofs.lemmas.List.{length-map, get_or-map}
 use Rattle.std.proofs.lemmas.List.Folds.{flat_map-map}
 use Rattle.std.proofs.lemmas.List.Sums.{sum_by-cons}
-use Rattle.std.proofs.lemmas.List.Sorted.{IsPermutation-refl, IsPermutation-sym, IsPermutation-trans, IsPermutation-map, IsPermutation-keeps, IsPermutation-append_right, IsPermutation-reverse, sum_by-IsPermutation, length_permutation}
+use Rattle.std.proofs.lemmas.List.Sorted.{IsPermutation-refl, IsPermutation-sym, IsPermutation-trans, IsPermutation-map, IsPermutation-keeps, IsPermutation-append_left, IsPermutation-append_comm, IsPermutation-append_right, IsPermutation-reverse, sum_by-IsPermutation, length_permutation}
 use Rattle.std.proofs.lemmas.Bool.Decides.{nat_tests}
-use Rattle.branch_pool.specs.Seats.{Numbered, SeatData, PoolData, AreAllSeats, took}
-use Rattle.branch_pool.proofs.Absorbed.{turned}
+use Rattle.branch_pool.specs.Parts.{Numbered, taken_with}
+use Rattle.branch_pool.specs.Seats.{SeatData, PoolData, AreAllSeats}
+use Rattle.branch_pool.proofs.Balance.{exchange}
 use Rattle.branch_pool.proofs.Fresh.{length_range, map_map}
 
 -- how often j stands in a list
@@ -89,10 +90,10 @@ same_image f h xs ys e = sym (map_map f h xs) ∙ ap (map h) e ∙ map_map f h y
 module _ {B : Type 0} where
   pulled : {X : Type 0} (f : X → List B) (xs : List X) (x : X) (b : ℕ) (d : X) → b < length xs → IsPermutation (f x ++ flat_map f xs) (f (get_or xs b d) ++ flat_map f (set xs b x))
   pulled f [] x b d lt = absurd (omega arith)
-  pulled f (y ∷ ys) x zero d lt = turned (f x) (f y) (flat_map f ys)
+  pulled f (y ∷ ys) x zero d lt = exchange (f x) (f y) (flat_map f ys)
   pulled f (y ∷ ys) x (suc b) d lt =
-      IsPermutation-trans _ _ _ (turned (f x) (f y) (flat_map f ys))
-      (IsPermutation-trans _ _ _ (IsPermutation-append_right (f y) _ _ (pulled f ys x b d (omega arith))) (turned (f y) (f (get_or ys b d)) (flat_map f (set ys b x))))
+      IsPermutation-trans _ _ _ (exchange (f x) (f y) (flat_map f ys))
+      (IsPermutation-trans _ _ _ (IsPermutation-append_right (f y) _ _ (pulled f ys x b d (omega arith))) (exchange (f y) (f (get_or ys b d)) (flat_map f (set ys b x))))
 
   swapped : {X : Type 0} (f : X → List B) (xs : List X) (i j : ℕ) (d : X) → i < length xs → j < length xs → IsPermutation (flat_map f xs) (flat_map f (set (set xs i (get_or xs j d)) j (get_or xs i d)))
   swapped f [] i j d lt lt' = absurd (omega arith)
@@ -112,38 +113,36 @@ module _ {B : Type 0} where
   pub flat_by_map : {X Y : Type 0} (f : X → List B) (h : Y → List B) (xs : List X) (ys : List Y) → map f xs ≡ map h ys → flat_map f xs ≡ flat_map h ys
   flat_by_map f h xs ys e = sym (flat_map-map (λ (l : List B). l) f xs) ∙ ap (flat_map (λ (l : List B). l)) e ∙ flat_map-map (λ (l : List B). l) h ys
 
-  -- of lists of lists, as the rows have them
-  pub flat_by_rows : {R S Q : Type 0} (t : Q → List B) (items : R → List Q) (stolen : S → List (List B)) (rs : List R) (ss : List S) → map stolen ss ≡ map (λ r. map t (items r)) (reverse rs) → IsPermutation (flat_map (λ r. flat_map t (items r)) rs) (flat_map (λ s. flat_map (λ l. l) (stolen s)) ss)
-  flat_by_rows {R = R} t items stolen rs ss e =
-      let F : List (List B) → List B = flat_map (λ (l : List B). l) in
-      let a : flat_map (λ r. flat_map t (items r)) (reverse rs) ≡ flat_map (λ r. F (map t (items r))) (reverse rs) = flat_by_map (λ r. flat_map t (items r)) (λ r. F (map t (items r))) (reverse rs) (reverse rs) (each (reverse rs)) in
-      let b : flat_map (λ r. F (map t (items r))) (reverse rs) ≡ flat_map (λ s. F (stolen s)) ss = sym (flat_map-map F (λ r. map t (items r)) (reverse rs)) ∙ ap (flat_map F) (sym e) ∙ flat_map-map F stolen ss in
-      subst (λ (l : List B). IsPermutation (flat_map (λ r. flat_map t (items r)) rs) l) (a ∙ b) (flat_permutation (λ r. flat_map t (items r)) rs (reverse rs) (IsPermutation-reverse rs))
-    where
-      each : (qs : List R) → map (λ r. flat_map t (items r)) qs ≡ map (λ r. flat_map (λ (l : List B). l) (map t (items r))) qs
-      each [] = refl
-      each (q ∷ qs) = rw (sym (flat_map-map (λ (l : List B). l) t (items q))) (ap (λ l. flat_map (λ (l : List B). l) (map t (items q)) ∷ l) (each qs))
+  -- a list takes the place of an empty one
+  put_in : (ls : List (List B)) (m : ℕ) (x : List B) → m < length ls → get_or ls m [] ≡ [] → IsPermutation (flat_map (λ l. l) (set ls m x)) (x ++ flat_map (λ l. l) ls)
+  put_in [] m x lt none = absurd (omega (arith, lt))
+  put_in (l ∷ ls) zero x lt none = rw none (IsPermutation-refl _)
+  put_in (l ∷ ls) (suc m) x lt none =
+      IsPermutation-trans _ _ _ (IsPermutation-append_right l _ _ (put_in ls m x (omega (arith, lt)) none)) (exchange l x (flat_map (λ l. l) ls))
 
-  -- two lists of each element, one after the other
-  pub flat_both : {S : Type 0} (f h : S → List B) (ss : List S) → IsPermutation (flat_map (λ s. f s ++ h s) ss) (flat_map f ss ++ flat_map h ss)
-  flat_both f h [] = IsPermutation-refl _
-  flat_both f h (s ∷ ss) =
-      let a : IsPermutation ((f s ++ h s) ++ flat_map (λ s. f s ++ h s) ss) ((f s ++ h s) ++ (flat_map f ss ++ flat_map h ss)) = IsPermutation-append_right (f s ++ h s) _ _ (flat_both f h ss) in
-      let b : IsPermutation (f s ++ (h s ++ (flat_map f ss ++ flat_map h ss))) (f s ++ (flat_map f ss ++ (h s ++ flat_map h ss))) = IsPermutation-append_right (f s) _ _ (turned (h s) (flat_map f ss) (flat_map h ss)) in
-      IsPermutation-trans _ _ _ a
-      (subst (λ (l : List B). IsPermutation l ((f s ++ flat_map f ss) ++ (h s ++ flat_map h ss))) (sym (append_assoc (f s) (h s) (flat_map f ss ++ flat_map h ss)))
-      (subst (λ (l : List B). IsPermutation (f s ++ (h s ++ (flat_map f ss ++ flat_map h ss))) l) (sym (append_assoc (f s) (flat_map f ss) (h s ++ flat_map h ss))) b))
+  -- what a seat took: its worker's list, and its passes'
+  pub taken_apart : {Q : Type 0} (t : Q → List B) (ps : List Q) (number : ℕ) (own : List B) → number - 1 < length ps → get_or (map t ps) (number - 1) [] ≡ [] → IsPermutation (flat_map (λ l. l) (taken_with number own (map t ps))) (own ++ flat_map t ps)
+  taken_apart t ps number own lt none =
+      subst (λ (x : List B). IsPermutation (flat_map (λ l. l) (taken_with number own (map t ps))) (own ++ x)) (flat_map-map (λ (l : List B). l) t ps)
+      (put_in (map t ps) (number - 1) own (omega (arith, lt, length-map ps t)) none)
 
-  -- all that the seats took, when the rows have joined the workers
-  pub took_all : {R Q : Type 0} (t : Q → List B) (items : R → List Q) (seats : List (SeatData B)) (rows : List R) (before after : List B) → flat_map (λ (s : SeatData B). s.taken) seats ≡ before
-      → map (λ (s : SeatData B). s.stolen) seats ≡ map (λ r. map t (items r)) (reverse rows) → IsPermutation (before ++ flat_map (λ r. flat_map t (items r)) rows) after → IsPermutation (flat_map (λ (s : SeatData B). took s) seats) after
-  took_all t items seats rows before after own e joined =
-      let X = flat_map (λ r. flat_map t (items r)) rows in
-      let a = flat_both (λ (s : SeatData B). s.taken) (λ (s : SeatData B). flat_map (λ (l : List B). l) s.stolen) seats in
-      let b : IsPermutation (flat_map (λ (s : SeatData B). s.taken) seats ++ flat_map (λ (s : SeatData B). flat_map (λ (l : List B). l) s.stolen) seats) (flat_map (λ (s : SeatData B). s.taken) seats ++ X) =
-      IsPermutation-append_right (flat_map (λ (s : SeatData B). s.taken) seats) _ _ (IsPermutation-sym _ _ (flat_by_rows t items (λ (s : SeatData B). s.stolen) rows seats e)) in
-      let c : IsPermutation (flat_map (λ (s : SeatData B). s.taken) seats ++ X) after = subst (λ (l : List B). IsPermutation (l ++ X) after) (sym own) joined in
-      IsPermutation-trans _ _ _ a (IsPermutation-trans _ _ _ b c)
+  -- one seat more is taken apart
+  pub parted_step : (start a a' w w' r r' s u v : List B) → a' ≡ a ++ s → w' ≡ w ++ u → r' ≡ r ++ v → IsPermutation s (u ++ v) → IsPermutation start (a' ++ (w ++ r)) → IsPermutation start (a ++ (w' ++ r'))
+  parted_step start a a' w w' r r' s u v ea ew er split h =
+      let p : IsPermutation (s ++ (w ++ r)) ((u ++ v) ++ (w ++ r)) = IsPermutation-append_left (w ++ r) s (u ++ v) split in
+      let q : IsPermutation ((u ++ v) ++ (w ++ r)) (u ++ (w ++ (r ++ v))) =
+      subst (λ (x : List B). IsPermutation x (u ++ (w ++ (r ++ v)))) (sym (append_assoc u v (w ++ r)))
+      (IsPermutation-append_right u _ _ (IsPermutation-trans _ _ _ (exchange v w r) (IsPermutation-append_right w _ _ (IsPermutation-append_comm v r)))) in
+      let k : IsPermutation (u ++ (w ++ (r ++ v))) (w' ++ r') =
+      subst (λ (x : List B). IsPermutation (u ++ (w ++ (r ++ v))) (x ++ r')) (sym ew)
+      (subst (λ (x : List B). IsPermutation (u ++ (w ++ (r ++ v))) ((w ++ u) ++ x)) (sym er)
+      (subst (λ (x : List B). IsPermutation (u ++ (w ++ (r ++ v))) x) (sym (append_assoc w u (r ++ v))) (exchange u w (r ++ v)))) in
+      let whole : IsPermutation start (a ++ (s ++ (w ++ r))) = subst (λ (x : List B). IsPermutation start x) (ap (λ (x : List B). x ++ (w ++ r)) ea ∙ append_assoc a s (w ++ r)) h in
+      IsPermutation-trans _ _ _ whole (IsPermutation-append_right a _ _ (IsPermutation-trans _ _ _ p (IsPermutation-trans _ _ _ q k)))
+
+  -- the workers are turned round
+  pub turned_workers : {X : Type 0} (f : X → List B) (ws : List X) (start rows : List B) → IsPermutation start (flat_map f ws ++ rows) → IsPermutation start (flat_map f (reverse ws) ++ rows)
+  turned_workers f ws start rows h = IsPermutation-trans _ _ _ h (IsPermutation-append_left rows _ _ (flat_permutation f ws (reverse ws) (IsPermutation-reverse ws)))
 
   pub how_many : (p : PoolData) (seats : List (SeatData B)) → AreAllSeats p seats → length seats ≡ length p.deques
   how_many p seats all =

@@ -7,7 +7,7 @@ use Rattle.std.specs.List.{range_with_len, All}
 use Rattle.std.proofs.lemmas.List.Elements.{All-append}
 use Rattle.branch_pool.specs.declared.rule.SeatView.{SeatView}
 use Rattle.branch_pool.specs.Rule.{view_of}
-use Rattle.branch_pool.specs.Seats.{keeps, worker_views, pass_views}
+use Rattle.branch_pool.specs.Parts.{keeps, worker_views, pass_views}
 
 pub same_range : {X : Type 0} (f h : ℕ → X) (a n : ℕ) → ((k : ℕ) → f k ≡ h k) → map f (range_with_len a n) ≡ map h (range_with_len a n)
 same_range f h a zero same = refl

@@ -1,5 +1,5 @@
 -- Workers and rows become seats.
-use Rattle.std.proofs.Common.{◌≡◌, ℕ, zero, suc, ◌<◌, ◌≤◌, ◌-◌, ◌+◌, ◌^◌, min, List, [], ◌∷◌, ◌++◌, map, length, get_or, refl, ap, sym, ◌∙◌, arith, cond, ◌==◌, subst, None, Some, Global, reverse}
+use Rattle.std.proofs.Common.{◌≡◌, ℕ, zero, suc, ◌<◌, ◌≤◌, ◌-◌, ◌+◌, ◌^◌, min, List, [], ◌∷◌, ◌++◌, map, length, get_or, set, refl, ap, sym, ◌∙◌, arith, cond, ◌==◌, subst, None, Some, Global, reverse}
 use Rattle.std.proofs.lemmas.List.{length-map, get_or-map, reverse-append}
 use Rattle.std.proofs.lemmas.Bool.Decides.{nat_tests}
 use Rattle.std.specs.List.{All, range_with_len, flat_map}
@@ -9,7 +9,8 @@ use Rattle.std.proofs.lemmas.List.Elements.{All-pop, All-cons}
 use Rattle.crossbeam_deque.specs.Handles.{Pass, view}
 use Rattle.branch_pool.specs.declared.rule.SeatView.{SeatView}
 use Rattle.branch_pool.specs.Rule.{view_of}
-use Rattle.branch_pool.specs.Seats.{DequeId, SeatData, Numbered, IsRow, keeps, worker_views, row, fresh_seat, all_taken, AreAllSeats, took}
+use Rattle.branch_pool.specs.Parts.{Numbered, IsRow, keeps, worker_views, row, taken_with}
+use Rattle.branch_pool.specs.Seats.{DequeId, SeatData, fresh_seat, all_taken, AreAllSeats}
 
 pub map_map : {X Y Z : Type 0} (f : X → Y) (h : Y → Z) (xs : List X) → map h (map f xs) ≡ map (λ x. h (f x)) xs
 map_map f h [] = refl
@@ -124,26 +125,33 @@ module _ {B : Type 0} where
       sym (map_map (λ (p : P B). view p) (λ (h : SeatView B). h.offered) ps) ∙ ap (map (λ (h : SeatView B). h.offered)) r.views ∙ map_map (λ n. view_of {B = B} (cond (n == k) 0 1) [] []) (λ (h : SeatView B). h.offered) (range_with_len 1 (length ds))
       ∙ same_const [] (range_with_len 1 (length ds)) ds (length_range 1 (length ds))
 
+  nothing_at : {X : Type 0} (ds : List X) (i : ℕ) → get_or (map (λ (d : X). nothing) ds) i [] ≡ []
+  nothing_at [] i = refl
+  nothing_at (d ∷ ds) zero = refl
+  nothing_at (d ∷ ds) (suc i) = nothing_at ds i
+
+  nothing_put : {X : Type 0} (ds : List X) (i : ℕ) → set (map (λ (d : X). nothing) ds) i nothing ≡ map (λ (d : X). nothing) ds
+  nothing_put [] i = refl
+  nothing_put (d ∷ ds) zero = refl
+  nothing_put (d ∷ ds) (suc i) = ap (λ l. nothing ∷ l) (nothing_put ds i)
+
   row_quiet : (ds : List DequeId) (k : ℕ) (ps : List (P B)) → IsRow ds k ps → All Quiet ps
   row_quiet ds k ps r = λ i d lt.
-      let len = row_length ds k ps r in
       let q = r.quiet i d lt in
       let e : (get_or ps i d).me.view.client.offered ≡ [] =
       sym (get_or-map (λ (p : P B). p.me.view.client.offered) ps i d [] lt) ∙ ap (λ l. get_or l i []) (row_offered ds k ps r) ∙ nothing_at ds i in
       (q.0, q.1, e)
-    where
-      nothing_at : {X : Type 0} (ds : List X) (i : ℕ) → get_or (map (λ (d : X). nothing) ds) i [] ≡ []
-      nothing_at [] i = refl
-      nothing_at (d ∷ ds) zero = refl
-      nothing_at (d ∷ ds) (suc i) = nothing_at ds i
+
+  none_taken : (ds : List DequeId) (number : ℕ) (v : SeatView B) (ps : List (P B)) (n : ℕ) → IsRow ds number ps → v ≡ view_of n [] [] → taken_with number v.taken (map T ps) ≡ map (λ d. []) ds
+  none_taken ds number v ps n r is = rw (is, row_taken ds number ps r) (nothing_put ds (number - 1))
 
   pub fresh_invariant : (ds : List DequeId) (number flavor port : ℕ) (own : DequeId) (v : SeatView B) (ps : List (P B)) → 1 ≤ number → number ≤ length ds → length ds ≤ 64 → IsRow ds number ps
       → (flavor ≡ 1) × (port ≡ 0) → v ≡ view_of (65 - length ds) [] [] → get_or ds (number - 1) own ≡ own
       → (1 ≤ number) × (number ≤ length ps) × (length ps ≤ 64) × ((flavor ≡ 1) × (port ≡ 0)) × (v.parts ≡ 65 - length ps) × (0 ≡ length v.offered) × All Quiet ps × (map N ps ≡ row number (length ps))
-      × (0 ≡ min (length (all_taken v.taken (map T ps))) (2 ^ 64 - 1)) × (get_or (map D ps) (number - 1) own ≡ own)
+      × (0 ≡ min (length (flat_map (λ l. l) (taken_with number v.taken (map T ps)))) (2 ^ 64 - 1)) × (get_or (map D ps) (number - 1) own ≡ own) × (get_or (map T ps) (number - 1) [] ≡ [])
   fresh_invariant ds number flavor port own v ps one below most r lifo is tie =
       let len = row_length ds number ps r in
-      let none : length (all_taken v.taken (map T ps)) ≡ 0 = rw (is, row_taken ds number ps r) (ap length (flat_none {B = B} ds)) in (
+      let none : length (flat_map (λ l. l) (taken_with number v.taken (map T ps))) ≡ 0 = ap (λ (l : List (List B)). length (flat_map (λ l. l) l)) (none_taken ds number v ps (65 - length ds) r is) ∙ ap length (flat_none {B = B} ds) in (
         one,
         omega (arith, len, below),
         omega (arith, len, most),
@@ -154,11 +162,12 @@ module _ {B : Type 0} where
         row_parts ds number ps r ∙ ap (row number) (sym len),
         omega (arith, none),
         ap (λ l. get_or l (number - 1) own) r.own ∙ tie,
+        ap (λ l. get_or l (number - 1) []) (row_taken ds number ps r) ∙ nothing_at ds (number - 1),
       )
 
   pub fresh_view : (ds : List DequeId) (number n : ℕ) (v : SeatView B) (ps : List (P B)) → IsRow ds number ps → v ≡ view_of n [] []
-      → record { number = number; deques = map D ps; offered = v.offered; taken = v.taken; stolen = map T ps } ≡ fresh_seat ds number
-  fresh_view ds number n v ps r is = rw (is, r.own, row_taken ds number ps r) refl
+      → record { number = number; deques = map D ps; offered = v.offered; taken = taken_with number v.taken (map T ps) } ≡ fresh_seat ds number
+  fresh_view ds number n v ps r is = rw (none_taken ds number v ps n r is, ap (λ (h : SeatView B). h.offered) is, r.own) refl
 
   pub fresh_all : (ds : List DequeId) (n : ℕ) → length ds ≡ n → AreAllSeats {B = B} record { deques = ds } (map (λ k. fresh_seat ds k) (range_with_len 1 n))
   fresh_all ds n len = record {
@@ -174,6 +183,6 @@ module _ {B : Type 0} where
       numbers ds a zero = refl
       numbers ds a (suc n) = ap (λ l. a ∷ l) (numbers ds (a + 1) n)
 
-  pub fresh_empty : (ds : List DequeId) (a n : ℕ) → All (λ (s : SeatData B). (s.offered ≡ []) × (took s ≡ [])) (map (λ k. fresh_seat ds k) (range_with_len a n))
+  pub fresh_empty : (ds : List DequeId) (a n : ℕ) → All (λ (s : SeatData B). (s.offered ≡ []) × (all_taken s ≡ [])) (map (λ k. fresh_seat ds k) (range_with_len a n))
   fresh_empty ds a zero = λ i d lt. absurd (omega (arith, lt))
-  fresh_empty ds a (suc n) = All-cons (λ (s : SeatData B). (s.offered ≡ []) × (took s ≡ [])) (fresh_seat ds a) (map (λ k. fresh_seat ds k) (range_with_len (a + 1) n)) (refl, flat_none {B = B} ds) (fresh_empty ds (a + 1) n)
+  fresh_empty ds a (suc n) = All-cons (λ (s : SeatData B). (s.offered ≡ []) × (all_taken s ≡ [])) (fresh_seat ds a) (map (λ k. fresh_seat ds k) (range_with_len (a + 1) n)) (refl, flat_none {B = B} ds) (fresh_empty ds (a + 1) n)

@@ -8,7 +8,7 @@ use Rattle.std.proofs.lemmas.List.Elements.{All-head, All-tail}
 use Rattle.std.proofs.lemmas.List.FromFn.{get_or-map-range_with_len}
 use Rattle.std.proofs.lemmas.List.Sorted.{IsPermutation-trans, IsPermutation-append_left, IsPermutation-append_right}
 use Rattle.std.proofs.lemmas.Bool.Decides.{nat_tests}
-use Rattle.branch_pool.specs.Seats.{Numbered, added, one_if_upto, row}
+use Rattle.branch_pool.specs.Parts.{Numbered, added, one_if_upto, row}
 use Rattle.branch_pool.proofs.Absorbed.{last_taken}
 use Rattle.branch_pool.proofs.Dealt.{take_snoc}
 use Rattle.branch_pool.proofs.Fresh.{alike_range, length_range}

@@ -1,6 +1,6 @@
 -- One pass of a seat changes.
-use Rattle.std.proofs.Common.{◌≡◌, ◌≢◌, ℕ, zero, suc, ◌<◌, ◌≤◌, ◌+◌, ◌-◌, ◌^◌, min, None, subst, append_assoc, List, [], ◌∷◌, ◌++◌, map, length, set, get_or, refl, ap, sym, ◌∙◌, arith, cond, ◌==◌, Global}
-use Rattle.std.proofs.lemmas.List.{map-set, length-map, length-set, get_or-map}
+use Rattle.std.proofs.Common.{◌≡◌, ◌≢◌, ℕ, zero, suc, ◌<◌, ◌≤◌, ◌+◌, ◌-◌, ◌^◌, min, None, subst, append_assoc, append-nil, length-append, List, [], ◌∷◌, ◌++◌, map, length, set, get_or, refl, ap, sym, ◌∙◌, arith, cond, ◌==◌, Global}
+use Rattle.std.proofs.lemmas.List.{map-set, length-map, length-set, get_or-map, set_comm, set-set, get_or-set_same, get_or-set_other}
 use Rattle.std.proofs.lemmas.List.Elements.{All-set, All-get_or}
 use Rattle.std.specs.List.{All, flat_map}
 use Rattle.std.specs.Prelude.{IsPermutation}
@@ -10,7 +10,10 @@ use Rattle.std.proofs.Math.Seq.{map-set_same}
 use Rattle.std.proofs.lemmas.Bool.Decides.{nat_tests}
 use Rattle.crossbeam_deque.specs.Handles.{Pass, view}
 use Rattle.branch_pool.specs.declared.rule.SeatView.{SeatView}
-use Rattle.branch_pool.specs.Seats.{DequeId, SeatData, row, all_taken}
+use Rattle.branch_pool.specs.Rule.{HoldsAtMost}
+use Rattle.branch_pool.specs.Parts.{row, taken_with}
+use Rattle.branch_pool.specs.Seats.{DequeId, SeatData, taken_from, all_taken, with_taken, own_view, other_view}
+use Rattle.branch_pool.proofs.Balance.{part_of}
 
 pub same_place : {X Y D : Type 0} (f : X → D) (h : Y → D) (xs : List X) (ys : List Y) (i : ℕ) (d : X) (e : Y) → map f xs ≡ map h ys → i < length xs → f (get_or xs i d) ≡ h (get_or ys i e)
 same_place f h xs ys i d e eq lt =
@@ -41,34 +44,68 @@ module _ {B : Type 0} where
   abbrev T : P B → List B
   T p = p.me.view.client.taken
 
-  abbrev seen : ℕ → List DequeId → List B → List B → List (List B) → SeatData B
-  seen n deques offered taken stolen = record { number = n; deques = deques; offered = offered; taken = taken; stolen = stolen }
+  abbrev seen : ℕ → List DequeId → List B → List (List B) → SeatData B
+  seen n deques offered taken = record { number = n; deques = deques; offered = offered; taken = taken }
 
-  pub stolen_view : (n : ℕ) (offered taken : List B) (ps : List (P B)) (i : ℕ) (q d : P B) (b : B) → i < length ps → q.rows ≡ (get_or ps i d).rows → q.heap ≡ (get_or ps i d).heap → T q ≡ T (get_or ps i d) ++ b ∷ []
-      → seen n (map D (set ps i q)) offered taken (map T (set ps i q))
-      ≡ seen n (map D ps) offered taken (set (map T ps) i (get_or (map T ps) i [] ++ b ∷ []))
-  stolen_view n offered taken ps i q d b lt r h t =
+  -- a list of lists in which one grows at its end
+  own_more : (ls : List (List B)) (m : ℕ) (own own' : List B) (b : B) → m < length ls → own' ≡ own ++ b ∷ [] → set ls m own' ≡ set (set ls m own) m (get_or (set ls m own) m [] ++ b ∷ [])
+  own_more ls m own own' b lt more =
+      ap (set ls m) more ∙ ap (λ (x : List B). set ls m (x ++ b ∷ [])) (sym (get_or-set_same ls m own [] lt)) ∙ sym (set-set ls m own (get_or (set ls m own) m [] ++ b ∷ []))
+
+  other_more : (ls : List (List B)) (i m : ℕ) (own : List B) (b : B) → i ≢ m → set (set ls i (get_or ls i [] ++ b ∷ [])) m own ≡ set (set ls m own) i (get_or (set ls m own) i [] ++ b ∷ [])
+  other_more ls i m own b other =
+      set_comm ls i m (get_or ls i [] ++ b ∷ []) own other ∙ ap (λ (x : List B). set (set ls m own) i (x ++ b ∷ [])) (sym (get_or-set_other ls m i own [] other))
+
+  -- the seat after it took from its own deque
+  pub took_view : (n : ℕ) (ds : List DequeId) (o o' t t' : List B) (ls : List (List B)) (b : B) → n - 1 < length ls → o' ≡ o → t' ≡ t ++ b ∷ [] → seen n ds o' (taken_with n t' ls) ≡ with_taken (seen n ds o (taken_with n t ls)) n b
+  took_view n ds o o' t t' ls b lt same more = rw same (ap (λ x. seen n ds o x) (own_more ls (n - 1) t t' b lt more))
+
+  -- the seat after it stole
+  pub stolen_view : (n k : ℕ) (offered own : List B) (ps : List (P B)) (i : ℕ) (q d : P B) (b : B) → i < length ps → i ≢ n - 1 → i ≡ k - 1 → q.rows ≡ (get_or ps i d).rows → q.heap ≡ (get_or ps i d).heap → T q ≡ T (get_or ps i d) ++ b ∷ []
+      → seen n (map D (set ps i q)) offered (taken_with n own (map T (set ps i q)))
+      ≡ with_taken (seen n (map D ps) offered (taken_with n own (map T ps))) k b
+  stolen_view n k offered own ps i q d b lt other at r h t =
       let ds : map D (set ps i q) ≡ map D ps = map-set_same D ps i q d (rw r (rw h refl)) in
       let ts : map T (set ps i q) ≡ set (map T ps) i (get_or (map T ps) i [] ++ b ∷ []) = map-set T ps i q ∙ ap (λ x. set (map T ps) i x) (t ∙ ap (λ (x : List B). x ++ b ∷ []) (sym (get_or-map T ps i d [] lt))) in
-      rw ds (rw ts refl)
+      let both : taken_with n own (map T (set ps i q)) ≡ set (taken_with n own (map T ps)) i (get_or (taken_with n own (map T ps)) i [] ++ b ∷ []) =
+      ap (λ l. taken_with n own l) ts ∙ other_more (map T ps) i (n - 1) own b other in
+      rw ds (ap (λ l. seen n (map D ps) offered l) (both ∙ ap (λ j. set (taken_with n own (map T ps)) j (get_or (taken_with n own (map T ps)) j [] ++ b ∷ [])) at))
 
-  pub same_view : (n : ℕ) (offered taken : List B) (ps : List (P B)) (i : ℕ) (q d : P B) → q.rows ≡ (get_or ps i d).rows → q.heap ≡ (get_or ps i d).heap → T q ≡ T (get_or ps i d)
-      → seen n (map D (set ps i q)) offered taken (map T (set ps i q))
-      ≡ seen n (map D ps) offered taken (map T ps)
-  same_view n offered taken ps i q d r h t =
+  pub same_view : (n : ℕ) (offered own : List B) (ps : List (P B)) (i : ℕ) (q d : P B) → q.rows ≡ (get_or ps i d).rows → q.heap ≡ (get_or ps i d).heap → T q ≡ T (get_or ps i d)
+      → seen n (map D (set ps i q)) offered (taken_with n own (map T (set ps i q)))
+      ≡ seen n (map D ps) offered (taken_with n own (map T ps))
+  same_view n offered own ps i q d r h t =
       let ds : map D (set ps i q) ≡ map D ps = map-set_same D ps i q d (rw r (rw h refl)) in
       let ts : map T (set ps i q) ≡ map T ps = map-set_same T ps i q d t in
       rw ds (rw ts refl)
 
+  -- what the rules of the deques know of a seat
+  pub own_seen : (n : ℕ) (v : SeatView B) (ps : List (P B)) → n - 1 < length ps → v.parts ≡ 65 - length ps → v ≡ own_view (seen n (map D ps) v.offered (taken_with n v.taken (map T ps)))
+  own_seen n v ps lt parts =
+      let len : length (map D ps) ≡ length ps = length-map ps D in
+      let tl : length (map T ps) ≡ length ps = length-map ps T in
+      let t : get_or (taken_with n v.taken (map T ps)) (n - 1) [] ≡ v.taken = get_or-set_same (map T ps) (n - 1) v.taken [] (omega (arith, tl, lt)) in
+      let e : 65 - length (map D ps) ≡ v.parts = omega (arith, len, parts) in
+      sym (rw (e, t) refl)
+
+  pub other_seen : (n k : ℕ) (offered own : List B) (ps : List (P B)) (i : ℕ) (d : P B) → i < length ps → i ≢ n - 1 → i ≡ k - 1 → (view (get_or ps i d)).parts ≡ 1 → (view (get_or ps i d)).offered ≡ []
+      → view (get_or ps i d) ≡ other_view (seen n (map D ps) offered (taken_with n own (map T ps))) k
+  other_seen n k offered own ps i d lt other at parts none =
+      let t : get_or (taken_with n own (map T ps)) (k - 1) [] ≡ T (get_or ps i d) =
+      ap (λ j. get_or (taken_with n own (map T ps)) j []) (sym at) ∙ get_or-set_other (map T ps) (n - 1) i own [] other ∙ get_or-map T ps i d [] lt in
+      sym (rw (t, sym parts, sym none) refl)
+
   abbrev pub Quiet : P B → Type 0
   Quiet p = (p.me.hand ≡ None) × (p.me.spare ≡ None) × (p.me.view.client.offered ≡ [])
 
-  -- what a seat's invariant asks of its passes, apart from what they took
-  pub seat_kept : (number parts : ℕ) (own : DequeId) (ps : List (P B)) (i : ℕ) (q d : P B) → i < length ps → d ≡ get_or ps i d
+  -- what a seat's invariant asks of its passes, apart from how much they took
+  pub seat_kept : (number parts : ℕ) (own : DequeId) (ps : List (P B)) (i : ℕ) (q d : P B) → i < length ps → i ≢ number - 1 → d ≡ get_or ps i d
       → number ≤ length ps → length ps ≤ 64 → parts ≡ 65 - length ps → All Quiet ps → map (λ (p : P B). p.me.view.client.parts) ps ≡ row number (length ps) → get_or (map D ps) (number - 1) own ≡ own
+      → get_or (map T ps) (number - 1) [] ≡ []
       → q.rows ≡ d.rows → q.heap ≡ d.heap → q.me.hand ≡ None → q.me.spare ≡ None → q.me.view.client.parts ≡ d.me.view.client.parts → q.me.view.client.offered ≡ d.me.view.client.offered
       → (number ≤ length (set ps i q)) × (length (set ps i q) ≤ 64) × (parts ≡ 65 - length (set ps i q)) × All Quiet (set ps i q) × (map (λ (p : P B). p.me.view.client.parts) (set ps i q) ≡ row number (length (set ps i q))) × (get_or (map D (set ps i q)) (number - 1) own ≡ own)
-  seat_kept number parts own ps i q d lt v below most all quiet rows tie r h hand spare same offers =
+      × (get_or (map T (set ps i q)) (number - 1) [] ≡ [])
+  seat_kept number parts own ps i q d lt other v below most all quiet rows tie none r h hand spare same offers =
       let len : length (set ps i q) ≡ length ps = length-set ps i q in
       let here = All-get_or Quiet ps i d lt quiet in
       let ds : map D (set ps i q) ≡ map D ps = map-set_same D ps i q d (rw (r ∙ ap (λ (p : P B). p.rows) v) (rw (h ∙ ap (λ (p : P B). p.heap) v) refl)) in (
@@ -78,47 +115,44 @@ module _ {B : Type 0} where
         All-set Quiet ps i q (hand, spare, offers ∙ ap (λ (p : P B). p.me.view.client.offered) v ∙ here.2) quiet,
         map-set_same (λ (p : P B). p.me.view.client.parts) ps i q d (same ∙ ap (λ (p : P B). p.me.view.client.parts) v) ∙ rows ∙ ap (row number) (sym len),
         ap (λ l. get_or l (number - 1) own) ds ∙ tie,
+        ap (λ l. get_or l (number - 1) []) (map-set T ps i q) ∙ get_or-set_other (map T ps) i (number - 1) (T q) [] (λ e. other (sym e)) ∙ none,
       )
 
   more_flat : (ls : List (List B)) (i : ℕ) (b : B) → i < length ls → IsPermutation (b ∷ flat_map (λ l. l) ls) (flat_map (λ l. l) (set ls i (get_or ls i [] ++ b ∷ [])))
-  more_flat [] i b lt = absurd (omega arith)
+  more_flat [] i b lt = absurd (omega (arith, lt))
   more_flat (l ∷ ls) zero b lt =
       IsPermutation-trans _ _ _ (IsPermutation-sym _ _ (IsPermutation-middle l b (flat_map (λ l. l) ls)))
       (subst (λ (x : List B). IsPermutation x ((l ++ b ∷ []) ++ flat_map (λ l. l) ls)) (append_assoc l (b ∷ []) (flat_map (λ l. l) ls)) (IsPermutation-append_left (flat_map (λ l. l) ls) _ _ (IsPermutation-refl (l ++ b ∷ []))))
   more_flat (l ∷ ls) (suc i) b lt =
       IsPermutation-trans _ _ _ (IsPermutation-sym _ _ (IsPermutation-middle l b (flat_map (λ l. l) ls)))
-      (IsPermutation-append_right l _ _ (more_flat ls i b (omega arith)))
+      (IsPermutation-append_right l _ _ (more_flat ls i b (omega (arith, lt))))
 
   -- what a seat took in all, after one branch more from one deque
-  pub more_taken : (own : List B) (ls : List (List B)) (i : ℕ) (b : B) → i < length ls → IsPermutation (b ∷ all_taken own ls) (all_taken own (set ls i (get_or ls i [] ++ b ∷ [])))
-  more_taken own ls i b lt =
-      IsPermutation-trans _ _ _ (IsPermutation-sym _ _ (IsPermutation-middle own b (flat_map (λ l. l) ls)))
-      (IsPermutation-append_right own _ _ (more_flat ls i b lt))
+  pub more_taken : (s s' : SeatData B) (k : ℕ) (b : B) → k - 1 < length s.taken → s' ≡ with_taken s k b → IsPermutation (b ∷ all_taken s) (all_taken s')
+  more_taken s s' k b lt e = subst (λ (u : SeatData B). IsPermutation (b ∷ all_taken s) (all_taken u)) (sym e) (more_flat s.taken (k - 1) b lt)
 
-  pub count_taken : (own : List B) (ps : List (P B)) (i n m : ℕ) (q d : P B) (b : B) → i < length ps → d ≡ get_or ps i d → T q ≡ T d ++ b ∷ [] → n ≡ min (length (all_taken own (map T ps))) (2 ^ 64 - 1) → m ≡ min (n + 1) (2 ^ 64 - 1)
-      → m ≡ min (length (all_taken own (map T (set ps i q)))) (2 ^ 64 - 1)
-  count_taken own ps i n m q d b lt v t was now =
-      let at : T d ≡ get_or (map T ps) i [] = ap T v ∙ sym (get_or-map T ps i d [] lt) in
-      let ts : map T (set ps i q) ≡ set (map T ps) i (get_or (map T ps) i [] ++ b ∷ []) = map-set T ps i q ∙ ap (λ x. set (map T ps) i x) (t ∙ ap (λ (x : List B). x ++ b ∷ []) at) in
-      let e : length (all_taken own (set (map T ps) i (get_or (map T ps) i [] ++ b ∷ []))) ≡ suc (length (all_taken own (map T ps))) = length_permutation _ _ (more_taken own (map T ps) i b (omega (arith, lt, length-map ps T))) in
-      let e' : length (all_taken own (map T (set ps i q))) ≡ suc (length (all_taken own (map T ps))) = ap (λ (l : List (List B)). length (all_taken own l)) ts ∙ e in
-      omega (arith, e', was, now)
-
-  pub same_taken : (own : List B) (ps : List (P B)) (i n : ℕ) (q d : P B) → d ≡ get_or ps i d → T q ≡ T d → n ≡ min (length (all_taken own (map T ps))) (2 ^ 64 - 1) → n ≡ min (length (all_taken own (map T (set ps i q)))) (2 ^ 64 - 1)
-  same_taken own ps i n q d v t was =
-      let ts : map T (set ps i q) ≡ map T ps = map-set_same T ps i q d (t ∙ ap T v) in
-      was ∙ ap (λ (l : List (List B)). min (length (all_taken own l)) (2 ^ 64 - 1)) (sym ts)
-
-  pub own_more : (own own' : List B) (ls : List (List B)) (b : B) → own' ≡ own ++ b ∷ [] → IsPermutation (b ∷ all_taken own ls) (all_taken own' ls)
-  own_more own own' ls b more =
-      subst (λ (l : List B). IsPermutation (b ∷ all_taken own ls) (l ++ flat_map (λ l. l) ls)) (sym more)
-      (subst (λ (l : List B). IsPermutation (b ∷ all_taken own ls) l) (sym (append_assoc own (b ∷ []) (flat_map (λ l. l) ls))) (IsPermutation-sym _ _ (IsPermutation-middle own b (flat_map (λ l. l) ls))))
-
-  pub more_stolen : (own : List B) (ps : List (P B)) (i : ℕ) (q d : P B) (b : B) → i < length ps → d ≡ get_or ps i d → T q ≡ T d ++ b ∷ [] → IsPermutation (b ∷ all_taken own (map T ps)) (all_taken own (map T (set ps i q)))
-  more_stolen own ps i q d b lt v t =
-      let at : T d ≡ get_or (map T ps) i [] = ap T v ∙ sym (get_or-map T ps i d [] lt) in
-      let ts : map T (set ps i q) ≡ set (map T ps) i (get_or (map T ps) i [] ++ b ∷ []) = map-set T ps i q ∙ ap (λ x. set (map T ps) i x) (t ∙ ap (λ (x : List B). x ++ b ∷ []) at) in
-      subst (λ (l : List (List B)). IsPermutation (b ∷ all_taken own (map T ps)) (all_taken own l)) (sym ts) (more_taken own (map T ps) i b (omega (arith, lt, length-map ps T)))
+  -- the count, which stands at its last value
+  pub count_taken : (s s' : SeatData B) (k : ℕ) (b : B) (n m : ℕ) → k - 1 < length s.taken → s' ≡ with_taken s k b → n ≡ min (length (all_taken s)) (2 ^ 64 - 1) → m ≡ min (n + 1) (2 ^ 64 - 1) → m ≡ min (length (all_taken s')) (2 ^ 64 - 1)
+  count_taken s s' k b n m lt e was now = let l = length_permutation _ _ (more_taken s s' k b lt e) in omega (arith, l, was, now)
 
   pub same_deques : (ps : List (P B)) (i : ℕ) (q d : P B) → d ≡ get_or ps i d → q.rows ≡ d.rows → q.heap ≡ d.heap → map D (set ps i q) ≡ map D ps
   same_deques ps i q d v r h = map-set_same D ps i q d (rw (r ∙ ap (λ (p : P B). p.rows) v) (rw (h ∙ ap (λ (p : P B). p.heap) v) refl))
+
+  -- a pool of one seat
+  one_list : (ls : List (List B)) (m : ℕ) → length ls ≡ 1 → m ≡ 0 → flat_map (λ l. l) ls ≡ get_or ls m []
+  one_list [] m one at = absurd (omega (arith, one))
+  one_list (l ∷ []) m one at = append-nil l ∙ sym (ap (λ j. get_or (l ∷ []) j []) at)
+  one_list (l ∷ x ∷ ls) m one at = absurd (omega (arith, one))
+
+  pub all_taken_alone : (s : SeatData B) → length s.deques ≡ 1 → length s.taken ≡ 1 → s.number - 1 ≡ 0 → HoldsAtMost 0 0 (own_view s) → IsPermutation s.offered (all_taken s)
+  all_taken_alone s one taken at none =
+      let p = part_of (own_view s) none in
+      let all : 65 - length s.deques ≡ 64 = omega (arith, one) in
+      let rest : taken_from s s.number ++ p.0 ≡ all_taken s = ap (λ (l : List B). taken_from s s.number ++ l) (p.2 all) ∙ append-nil (taken_from s s.number) ∙ sym (one_list s.taken (s.number - 1) taken at) in
+      subst (λ (l : List B). IsPermutation s.offered l) rest p.1
+
+  pub some_left_alone : (s : SeatData B) (b : B) (rest : List B) → length s.taken ≡ 1 → s.number - 1 ≡ 0 → IsPermutation s.offered (taken_from s s.number ++ b ∷ rest) → IsPermutation s.offered (all_taken s) → ⊥
+  some_left_alone s b rest taken at held all =
+      let h = length_permutation _ _ held in
+      let a = length_permutation _ _ all in
+      omega (arith, h, a, ap (λ (l : List B). length l) (one_list s.taken (s.number - 1) taken at), length-append (taken_from s s.number) (b ∷ rest))

@@ -1,36 +1,42 @@
--- The pool rule: what was offered is a permutation of what the queue holds together with what was taken.
-use Rattle.std.specs.Prelude.{◌≡◌, ℕ, ◌+◌, List, [], ◌∷◌, ◌++◌, IsPermutation}
+-- The pool rule of one deque: what was offered to it is what it holds together with what was taken from it.
+use Rattle.std.specs.Prelude.{◌≡◌, ◌≤◌, ℕ, List, ◌++◌, [], drop, length, IsPermutation}
+use Rattle.std.specs.List.{All, flat_map, sum_by}
+use mathlib.Core.Option.{some}
+use lib.ListN.{get_elem?}
 use Rattle.branch_pool.specs.declared.rule.SeatView.{SeatView}
 
 module _ {B : Type 0} where
   abbrev pub view_of : ℕ → List B → List B → SeatView B
   view_of parts offered taken = record { parts = parts; offered = offered; taken = taken }
 
-  -- the lists of all views, one after another
-  abbrev pub all_of : (SeatView B → List B) → List (SeatView B) → List B
-  all_of f [] = []
-  all_of f (v ∷ vs) = f v ++ all_of f vs
+  -- all that the seats of these views offered to the deque
+  abbrev pub offered_in : List (SeatView B) → List B
+  offered_in views = flat_map (λ v. v.offered) views
 
-  abbrev pub all_parts : List (SeatView B) → ℕ
-  all_parts [] = 0
-  all_parts (v ∷ vs) = v.parts + all_parts vs
+  -- all that they took from it
+  abbrev pub taken_in : List (SeatView B) → List B
+  taken_in views = flat_map (λ v. v.taken) views
 
-  -- a view with no part has offered and taken nothing
-  abbrev pub SpentIsEmpty : List (SeatView B) → Type 0
-  SpentIsEmpty [] = Unit {0}
-  SpentIsEmpty (v ∷ vs) = (v.parts ≡ 0 → (v.offered ≡ []) × (v.taken ≡ [])) × SpentIsEmpty vs
+  -- nothing was offered with this view
+  abbrev pub OffersNothing : SeatView B → Type 0
+  OffersNothing v = v.offered ≡ []
 
-  abbrev pub OfferNothing : List (SeatView B) → Type 0
-  OfferNothing [] = Unit {0}
-  OfferNothing (v ∷ vs) = (v.offered ≡ []) × OfferNothing vs
+  -- a spent view has no part, and empty lists
+  abbrev pub IsEmptyIfSpent : SeatView B → Type 0
+  IsEmptyIfSpent v = v.parts ≡ 0 → (v.offered ≡ []) × (v.taken ≡ [])
 
-  -- all that was offered to a deque came from its own seat, whose view is the first
-  abbrev pub OwnerOffers : List (SeatView B) → Type 0
-  OwnerOffers [] = Unit {0}
-  OwnerOffers (v ∷ vs) = OfferNothing vs
-
+  -- what was offered is a permutation of what the deque holds together with what was taken. The views have 64 parts together, and the first,
+  -- which is the deque's own seat's, alone offers
   pub record IsBalanced (items : List B) (views : List (SeatView B)) : Type 0 where
-    pub kept : IsPermutation (all_of (λ v. v.offered) views) (items ++ all_of (λ v. v.taken) views)
-    pub whole : all_parts views ≡ 64
-    pub spent : SpentIsEmpty views
-    pub owner : OwnerOffers views
+    pub kept : IsPermutation (offered_in views) (items ++ taken_in views)
+    pub whole : sum_by (λ v. v.parts) views ≡ 64
+    pub spent : All IsEmptyIfSpent views
+    pub owner : All OffersNothing (drop 1 views)
+
+  -- a deque that keeps the rule, has this view at this place, and holds at most so many branches
+  pub record HoldsAtMost (most place : ℕ) (view : SeatView B) : Type 0 where
+    pub items : List B
+    pub views : List (SeatView B)
+    pub rule : IsBalanced items views
+    pub seen : get_elem? views place ≡ some view
+    pub few : length items ≤ most

@@ -2,13 +2,15 @@
 use crossbeam_deque::protocol::{Join, Lesson, Outcome, Protocol, Split};
 use std::collections::LinkedList;
 
-// What one view has offered and taken, and its parts of the right to know the whole. No value of it is made.
+/// What a deque's rule keeps of one seat: what the seat offered to the deque and took from it, and how many of 64 parts it has. A view with all
+/// parts knows all that was offered and taken. Views exist in proofs alone.
 pub struct SeatView<B> {
     pub parts: u64,
     pub offered: LinkedList<B>,
     pub taken: LinkedList<B>,
 }
 
+/// The pool rule. A deque begins with its own seat's view, which has all parts; the guest is a view without one.
 pub struct PoolRule;
 
 impl<B> Protocol<B, SeatView<B>> for PoolRule {
@@ -22,6 +24,7 @@ impl<B> Protocol<B, SeatView<B>> for PoolRule {
     ghost guest = { view_of 0 [] [] };
 }
 
+/// A part goes to another seat, which has offered and taken nothing yet.
 pub struct Deal;
 
 impl<B> Split<SeatView<B>> for Deal {
@@ -33,6 +36,7 @@ impl<B> Split<SeatView<B>> for Deal {
     ghost right = { λ v. view_of 1 [] [] };
 }
 
+/// One view takes the lists and parts of another, which is spent.
 pub struct Gather;
 
 impl<B> Join<SeatView<B>> for Gather {
@@ -44,6 +48,7 @@ impl<B> Join<SeatView<B>> for Gather {
     ghost spent = { view_of 0 [] [] };
 }
 
+/// A branch is offered.
 pub struct Offering;
 
 impl<B> Outcome<B, SeatView<B>> for Offering {
@@ -53,26 +58,31 @@ impl<B> Outcome<B, SeatView<B>> for Offering {
     ghost then = { λ v xs w. w ≡ view_of v.parts (v.offered ++ xs) v.taken };
 }
 
+/// The seat takes the newest branch of its own deque; none, where the deque is empty.
 pub struct Taking;
 
 impl<B> Outcome<B, SeatView<B>> for Taking {
     ghost use Rattle.std.specs.Prelude.{[], ◌≡◌, ◌++◌, List, IsPermutation};
-    ghost use Rattle.branch_pool.specs.Rule.{view_of};
+    ghost use Rattle.branch_pool.specs.Rule.{view_of, HoldsAtMost};
 
     ghost then = { λ v xs w. (w ≡ view_of v.parts v.offered (v.taken ++ xs)) × ((rest : List B) × IsPermutation v.offered (v.taken ++ (xs ++ rest))) };
 
-    ghost empty = { λ v. (rest : List B) × IsPermutation v.offered (v.taken ++ rest) × (v.parts ≡ 64 → rest ≡ []) };
+    ghost empty = { λ v. HoldsAtMost 0 0 v };
 }
 
+/// The seat takes the oldest branch of another's deque; none, where that deque holds at most one.
 pub struct Stealing;
 
 impl<B> Outcome<B, SeatView<B>> for Stealing {
-    ghost use Rattle.std.specs.Prelude.{◌≡◌, ◌++◌, ◌<◌, length};
-    ghost use Rattle.branch_pool.specs.Rule.{view_of};
+    ghost use Rattle.std.specs.Prelude.{◌≡◌, ◌++◌, ℕ};
+    ghost use Rattle.branch_pool.specs.Rule.{view_of, HoldsAtMost};
 
-    ghost then = { λ v xs w. (w ≡ view_of v.parts v.offered (v.taken ++ xs)) × (v.parts ≡ 64 → length v.taken < length v.offered) };
+    ghost then = { λ v xs w. w ≡ view_of v.parts v.offered (v.taken ++ xs) };
+
+    ghost empty = { λ v. (place : ℕ) × HoldsAtMost 1 place v };
 }
 
+/// Who has all parts knows what the deque holds.
 pub struct Holding;
 
 impl<B> Lesson<B, SeatView<B>> for Holding {

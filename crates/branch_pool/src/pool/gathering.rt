@@ -1,10 +1,9 @@
 //! Seats are taken apart, and what their deques have left is gathered.
-ghost use Rattle.std.specs.Prelude.{◌≡◌, List, ◌<◌, ◌≤◌, ◌++◌, ◌-◌, ◌∷◌, [], reverse, IfErr, IfSome, IsNone, OnOk, IsPermutation, length, slice_index_or, slice_set, ◌≢◌, ◌+◌, ◌^◌, IfOk, map, min, vec_capacity, None, cond, ◌==◌};
-ghost use Rattle.std.specs.List.Sorted.{IsNonDecreasingBy};
-ghost use Rattle.std.specs.List.{All, flat_map, range_with_len, sum_by};
-ghost use Rattle.crossbeam_deque.specs.Handles.{view, IsPassOf, SamePass, stealer_deque, stealer_flavor, worker_deque, worker_view, worker_flavor, worker_port};
-ghost use Rattle.branch_pool.specs.Rule.{view_of};
-ghost use Rattle.branch_pool.specs.Seats.{IsSeatOf, worker_views, pass_views, keeps, fresh_seat, fresh_seats, Numbered, IsRow, IsUsedRow, IsQuiet, added, own_offered, own_taken, own_parts, pass_taken, pass_parts, AreAllSeats, took, IsOwner};
+ghost use Rattle.std.specs.Prelude.{◌≡◌, ◌<◌, ◌≤◌, ◌++◌, ◌-◌, ◌+◌, [], reverse, IsPermutation, length, map, vec_capacity};
+ghost use Rattle.std.specs.List.{All, flat_map, sum_by};
+ghost use Rattle.crossbeam_deque.specs.Handles.{worker_deque, worker_view};
+ghost use Rattle.branch_pool.specs.Seats.{IsSeatOf, all_taken, taken_by};
+ghost use Rattle.branch_pool.specs.Parts.{Numbered, IsUsedRow, IsQuiet, added, own_offered, own_taken, own_parts, pass_taken, pass_parts, IsOwner};
 
 use super::{Own, Pool, Seat};
 use crate::rule::{Gather, Holding, SeatView, Taking};
@@ -88,8 +87,7 @@ pub(super) fn parted<B: Drop>(
     ensures rows { Numbered (λ k r. IsUsedRow pool.now.deques k r.items) 1 (reverse result.1.items) }
     ensures lengths { (length result.0.items ≡ length pool.now.deques) × (length result.1.items ≡ length pool.now.deques) }
     ensures offered { map (λ s. s.offered) seats.items ≡ map own_offered result.0.items }
-    ensures taken { map (λ s. s.taken) seats.items ≡ map own_taken result.0.items }
-    ensures stolen { map (λ s. s.stolen) seats.items ≡ map (λ r. map pass_taken r.items) (reverse result.1.items) }
+    ensures taken { IsPermutation (taken_by seats.items) (flat_map own_taken result.0.items ++ flat_map (λ r. flat_map pass_taken r.items) result.1.items) }
 {
     while let Some(seat) = seats.pop() {
         let Seat { own, passes, .. } = seat;

@@ -1,10 +1,10 @@
 //! A new pool: deques, and a seat for each.
-ghost use Rattle.std.specs.Prelude.{◌≡◌, List, ◌<◌, ◌≤◌, ◌++◌, ◌-◌, ◌∷◌, [], reverse, IfErr, IfSome, IsNone, OnOk, IsPermutation, length, slice_index_or, slice_set, ◌≢◌, ◌+◌, ◌^◌, IfOk, map, min, vec_capacity, None, cond, ◌==◌};
-ghost use Rattle.std.specs.List.Sorted.{IsNonDecreasingBy};
-ghost use Rattle.std.specs.List.{All, flat_map, range_with_len, sum_by};
-ghost use Rattle.crossbeam_deque.specs.Handles.{view, IsPassOf, SamePass, stealer_deque, stealer_flavor, worker_deque, worker_view, worker_flavor, worker_port};
+ghost use Rattle.std.specs.Prelude.{◌≡◌, ◌<◌, ◌≤◌, ◌-◌, ◌+◌, [], IfOk, length, slice_index_or, map, vec_capacity, None, cond, ◌==◌};
+ghost use Rattle.std.specs.List.{All, range_with_len};
+ghost use Rattle.crossbeam_deque.specs.Handles.{view, IsPassOf, stealer_deque, stealer_flavor, worker_deque, worker_view, worker_flavor, worker_port};
 ghost use Rattle.branch_pool.specs.Rule.{view_of};
-ghost use Rattle.branch_pool.specs.Seats.{IsSeatOf, worker_views, pass_views, keeps, fresh_seat, fresh_seats, Numbered, IsRow, IsUsedRow, IsQuiet, added, own_offered, own_taken, own_parts, pass_taken, pass_parts, AreAllSeats, took, IsOwner};
+ghost use Rattle.branch_pool.specs.Seats.{AreAllSeats, all_taken, fresh_seat, fresh_seats};
+ghost use Rattle.branch_pool.specs.Parts.{worker_views, pass_views, keeps, Numbered, IsRow, IsOwner};
 
 use super::{Other, Own, Pool, Seat};
 use crate::rule::{Deal, SeatView};
@@ -13,12 +13,13 @@ use std::alloc::{AllocError, Global};
 use wide_int::OutOfMemory;
 
 impl<B: Drop> Pool<B> {
+    /// A pool with an empty deque for each of 1 to 64 seats, and the seats, from number 1 on.
     pub fn new(alloc: Global, seats: u32) -> Result<(Pool<B>, Vec<Seat<B>>), OutOfMemory>
         requires { (1 ≤ seats) × (seats ≤ 64) }
         ensures pool { IfOk result (λ r. length r.0.deques ≡ seats) }
         ensures fresh { IfOk result (λ r. r.1.items ≡ fresh_seats r.0 seats) }
         ensures all { IfOk result (λ r. AreAllSeats r.0 r.1.items) }
-        ensures empty { IfOk result (λ r. All (λ s. (s.offered ≡ []) × (took s ≡ [])) r.1.items) }
+        ensures empty { IfOk result (λ r. All (λ s. (s.offered ≡ []) × (all_taken s ≡ [])) r.1.items) }
     {
         match opened(alloc, seats) {
             Ok(both) => Ok(both),

@@ -6,7 +6,7 @@ use Rattle.crossbeam_deque.specs.Handles.{stealer_deque}
 use Rattle.crossbeam_deque.specs.declared.handles.Stealer.{Stealer}
 use Rattle.branch_pool.specs.declared.rule.SeatView.{SeatView}
 use Rattle.branch_pool.specs.declared.rule.PoolRule.{PoolRule}
-use Rattle.branch_pool.specs.Seats.{SeatData, PoolData, IsSeatOf, took}
+use Rattle.branch_pool.specs.Seats.{SeatData, PoolData, IsSeatOf, all_taken}
 use Rattle.branch_pool.proofs.Closed.{how_many, in_turn, flat_permutation, capped_sum, capped_total}
 use Rattle.branch_pool.proofs.pool.Pool.close.Goals as goal
 
@@ -35,10 +35,10 @@ pub closed-requires-clause-room : goal.closed-requires-clause-room
 closed-requires-clause-room g c =
     let kept = c.in_order.ensures.kept in
     let o = length-flat_map (λ (s : SeatData g.row.B.Denot). s.offered) c.args.seats.items in
-    let t = length-flat_map (λ (s : SeatData g.row.B.Denot). took s) c.args.seats.items in
-    let k = capped_sum (λ (s : SeatData g.row.B.Denot). length (took s)) (2 ^ 64 - 1) c.args.seats.items in
+    let t = length-flat_map (λ (s : SeatData g.row.B.Denot). all_taken s) c.args.seats.items in
+    let k = capped_sum (λ (s : SeatData g.row.B.Denot). length (all_taken s)) (2 ^ 64 - 1) c.args.seats.items in
     let po = length_permutation _ _ (flat_permutation (λ (s : SeatData g.row.B.Denot). s.offered) _ _ kept) in
-    let pt = length_permutation _ _ (flat_permutation (λ (s : SeatData g.row.B.Denot). took s) _ _ kept) in
+    let pt = length_permutation _ _ (flat_permutation (λ (s : SeatData g.row.B.Denot). all_taken s) _ _ kept) in
     omega (arith, o, t, k, po, pt, c.counts-offered.ensures.offered, c.counts-offered.ensures.taken, c.saturating_sub.ensures, c.in-Ok.ensures, c.in-Ok-with_capacity.ensures.capacity)
 
 pub returns-clause-kept : goal.returns-clause-kept
@@ -46,7 +46,7 @@ returns-clause-kept g c =
     let kept = c.in_order.ensures.kept in
     IsPermutation-trans _ _ _ (flat_permutation (λ (s : SeatData g.row.B.Denot). s.offered) _ _ kept)
     (IsPermutation-trans _ _ _ c.closed.ensures
-    (IsPermutation-append_right c.closed.result.items _ _ (IsPermutation-sym _ _ (flat_permutation (λ (s : SeatData g.row.B.Denot). took s) _ _ kept))))
+    (IsPermutation-append_right c.closed.result.items _ _ (IsPermutation-sym _ _ (flat_permutation (λ (s : SeatData g.row.B.Denot). all_taken s) _ _ kept))))
 
 pub returns-clause-offered : goal.returns-clause-offered
 returns-clause-offered g c =
@@ -55,6 +55,6 @@ returns-clause-offered g c =
 
 pub returns-clause-taken : goal.returns-clause-taken
 returns-clause-taken g c =
-    let t = length-flat_map (λ (s : SeatData g.row.B.Denot). took s) c.args.seats.items in
-    let k = capped_total (λ (s : SeatData g.row.B.Denot). length (took s)) (2 ^ 64 - 1) c.args.seats.items in
+    let t = length-flat_map (λ (s : SeatData g.row.B.Denot). all_taken s) c.args.seats.items in
+    let k = capped_total (λ (s : SeatData g.row.B.Denot). length (all_taken s)) (2 ^ 64 - 1) c.args.seats.items in
     omega (arith, t, k, c.capped-2.ensures, c.counts-offered.ensures.taken)

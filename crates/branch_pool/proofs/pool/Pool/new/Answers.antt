@@ -1,6 +1,6 @@
 use Rattle.std.proofs.Common.{◌≡◌, [], sym, subst, List}
 use Rattle.std.specs.List.{All}
-use Rattle.branch_pool.specs.Seats.{SeatData, AreAllSeats, took}
+use Rattle.branch_pool.specs.Seats.{SeatData, AreAllSeats, all_taken}
 use Rattle.branch_pool.proofs.Fresh.{fresh_all, fresh_empty}
 use Rattle.branch_pool.proofs.pool.Pool.new.Goals as goal
 
@@ -11,5 +11,5 @@ returns-in-Ok-clause-all g c =
 
 pub returns-in-Ok-clause-empty : goal.returns-in-Ok-clause-empty
 returns-in-Ok-clause-empty g c =
-    subst (λ (l : List (SeatData g.row.B.Denot)). All (λ (s : SeatData g.row.B.Denot). (s.offered ≡ []) × (took s ≡ [])) l) (sym c.in-Ok.ensures.fresh)
+    subst (λ (l : List (SeatData g.row.B.Denot)). All (λ (s : SeatData g.row.B.Denot). (s.offered ≡ []) × (all_taken s ≡ [])) l) (sym c.in-Ok.ensures.fresh)
     (fresh_empty c.in-Ok.both.0.deques 1 c.args.seats)

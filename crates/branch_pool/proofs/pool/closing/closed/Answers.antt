@@ -1,13 +1,14 @@
-use Rattle.std.proofs.Common.{◌≡◌, ◌++◌, length, List, arith, ap, ◌∙◌, sym, subst, append-nil, Vec, Global, IsPermutation}
+use Rattle.std.proofs.Common.{◌≡◌, ◌++◌, length, List, arith, ap, ◌∙◌, sym, subst, append-nil, Global, IsPermutation}
 use Rattle.std.specs.List.{flat_map}
 use Rattle.std.proofs.lemmas.List.Concat.{length-flat_map}
 use Rattle.std.proofs.lemmas.List.Sorted.{length_permutation, IsPermutation-trans, IsPermutation-sym, IsPermutation-append_right}
-use Rattle.crossbeam_deque.specs.Handles.{Pass, worker_view}
+use Rattle.crossbeam_deque.specs.Handles.{worker_view}
 use Rattle.crossbeam_deque.specs.declared.handles.Worker.{Worker}
 use Rattle.branch_pool.specs.declared.rule.SeatView.{SeatView}
 use Rattle.branch_pool.specs.declared.rule.PoolRule.{PoolRule}
-use Rattle.branch_pool.specs.Seats.{SeatData, took, own_offered, own_taken, pass_taken}
-use Rattle.branch_pool.proofs.Closed.{flat_by_map, same_image, took_all}
+use Rattle.branch_pool.specs.Parts.{own_offered, own_taken}
+use Rattle.branch_pool.specs.Seats.{SeatData, taken_by}
+use Rattle.branch_pool.proofs.Closed.{flat_by_map, same_image}
 use Rattle.branch_pool.proofs.pool.closing.closed.Goals as goal
 
 pub joined-requires-clause-rows : goal.joined-requires-clause-rows
@@ -26,10 +27,7 @@ emptied-requires-clause-room g c =
     flat_by_map (own_offered {B = g.row.B.Denot}) (λ (s : SeatData g.row.B.Denot). s.offered) ws2 ss (same_image (λ (w : Worker g.row.B.Denot Global (SeatView g.row.B.Denot) PoolRule). worker_view w) (λ (h : SeatView g.row.B.Denot). h.offered) ws2 ws1 l.same ∙ j.offered ∙ sym e.offered) in
     let taken : flat_map own_taken ws2 ≡ flat_map own_taken ws1 =
     flat_by_map (own_taken {B = g.row.B.Denot}) (own_taken {B = g.row.B.Denot}) ws2 ws1 (same_image (λ (w : Worker g.row.B.Denot Global (SeatView g.row.B.Denot) PoolRule). worker_view w) (λ (h : SeatView g.row.B.Denot). h.taken) ws2 ws1 l.same) in
-    let all : IsPermutation (flat_map (λ (s : SeatData g.row.B.Denot). took s) ss) (flat_map own_taken ws2) =
-    took_all (pass_taken {B = g.row.B.Denot}) (λ (r : Vec (Pass g.row.B.Denot (SeatView g.row.B.Denot) Global) Global). r.items) ss c.parted-workers.result.1.items (flat_map own_taken ws0) (flat_map own_taken ws2)
-    (flat_by_map (λ (s : SeatData g.row.B.Denot). s.taken) (own_taken {B = g.row.B.Denot}) ss ws0 e.taken) e.stolen
-    (subst (λ (x : List g.row.B.Denot). IsPermutation (flat_map own_taken ws0 ++ flat_map (λ (r : Vec (Pass g.row.B.Denot (SeatView g.row.B.Denot) Global) Global). flat_map pass_taken r.items) c.parted-workers.result.1.items) x) (sym taken) j.taken) in
+    let all : IsPermutation (taken_by ss) (flat_map own_taken ws2) = subst (λ (x : List g.row.B.Denot). IsPermutation (taken_by ss) x) (sym taken) (IsPermutation-trans _ _ _ e.taken j.taken) in
     let none : length c.args.left.items ≡ 0 = ap length c.requires.empty.2 in
     let so = length-flat_map (own_offered {B = g.row.B.Denot}) ws2 in
     let st = length-flat_map (own_taken {B = g.row.B.Denot}) ws2 in
@@ -50,10 +48,7 @@ returns g c =
     flat_by_map (own_offered {B = g.row.B.Denot}) (λ (s : SeatData g.row.B.Denot). s.offered) ws2 ss (same_image (λ (w : Worker g.row.B.Denot Global (SeatView g.row.B.Denot) PoolRule). worker_view w) (λ (h : SeatView g.row.B.Denot). h.offered) ws2 ws1 l.same ∙ j.offered ∙ sym e.offered) in
     let taken : flat_map own_taken ws2 ≡ flat_map own_taken ws1 =
     flat_by_map (own_taken {B = g.row.B.Denot}) (own_taken {B = g.row.B.Denot}) ws2 ws1 (same_image (λ (w : Worker g.row.B.Denot Global (SeatView g.row.B.Denot) PoolRule). worker_view w) (λ (h : SeatView g.row.B.Denot). h.taken) ws2 ws1 l.same) in
-    let all : IsPermutation (flat_map (λ (s : SeatData g.row.B.Denot). took s) ss) (flat_map own_taken ws2) =
-    took_all (pass_taken {B = g.row.B.Denot}) (λ (r : Vec (Pass g.row.B.Denot (SeatView g.row.B.Denot) Global) Global). r.items) ss c.parted-workers.result.1.items (flat_map own_taken ws0) (flat_map own_taken ws2)
-    (flat_by_map (λ (s : SeatData g.row.B.Denot). s.taken) (own_taken {B = g.row.B.Denot}) ss ws0 e.taken) e.stolen
-    (subst (λ (x : List g.row.B.Denot). IsPermutation (flat_map own_taken ws0 ++ flat_map (λ (r : Vec (Pass g.row.B.Denot (SeatView g.row.B.Denot) Global) Global). flat_map pass_taken r.items) c.parted-workers.result.1.items) x) (sym taken) j.taken) in
+    let all : IsPermutation (taken_by ss) (flat_map own_taken ws2) = subst (λ (x : List g.row.B.Denot). IsPermutation (taken_by ss) x) (sym taken) (IsPermutation-trans _ _ _ e.taken j.taken) in
     let kept : IsPermutation (flat_map own_offered ws2 ++ c.args.left.items) (c.emptied.new.left.items ++ flat_map own_taken ws2) = c.emptied.ensures in
     let kept' = subst (λ (x : List g.row.B.Denot). IsPermutation x (c.emptied.new.left.items ++ flat_map own_taken ws2)) (ap (λ (x : List g.row.B.Denot). flat_map own_offered ws2 ++ x) c.requires.empty.2 ∙ append-nil (flat_map own_offered ws2) ∙ offered) kept in
     IsPermutation-trans _ _ _ kept' (IsPermutation-append_right c.emptied.new.left.items _ _ (IsPermutation-sym _ _ all))

@@ -7,7 +7,7 @@ use Rattle.crossbeam_deque.specs.Handles.{Pass, view, worker_port, worker_deque,
 use Rattle.crossbeam_deque.specs.declared.handles.Worker.{Worker}
 use Rattle.branch_pool.specs.declared.rule.SeatView.{SeatView}
 use Rattle.branch_pool.specs.declared.rule.PoolRule.{PoolRule}
-use Rattle.branch_pool.specs.Seats.{IsOwner, IsQuiet, added, own_offered, own_taken, own_parts, pass_taken, pass_parts}
+use Rattle.branch_pool.specs.Parts.{IsOwner, IsQuiet, added, own_offered, own_taken, own_parts, pass_taken, pass_parts}
 use Rattle.branch_pool.proofs.Balance.{joins}
 use Rattle.branch_pool.proofs.Fresh.{all_pop}
 use Rattle.branch_pool.proofs.Absorbed.{image_popped, parts_more, added_none, grown, moved_over, flat_popped}

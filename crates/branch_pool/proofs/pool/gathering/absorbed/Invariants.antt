@@ -1,7 +1,7 @@
 use Rattle.std.proofs.Common.{◌≡◌, ◌<◌, ◌≤◌, ◌++◌, length, map, vec_len, take, IsPermutation}
 use Rattle.std.specs.List.{All, flat_map}
 use Rattle.crossbeam_deque.specs.Handles.{worker_deque}
-use Rattle.branch_pool.specs.Seats.{IsOwner, IsQuiet, added, own_offered, own_taken, own_parts, pass_taken, pass_parts}
+use Rattle.branch_pool.specs.Parts.{IsOwner, IsQuiet, added, own_offered, own_taken, own_parts, pass_taken, pass_parts}
 use Rattle.branch_pool.proofs.pool.gathering.absorbed.Given as goal
 
 abbrev pub invariant-loop-pass : goal.invariant-loop-pass

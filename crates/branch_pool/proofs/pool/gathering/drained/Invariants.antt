@@ -1,6 +1,6 @@
 use Rattle.std.proofs.Common.{◌≡◌, ◌++◌, vec_capacity, IsPermutation, ◌+◌, ◌-◌, length}
 use Rattle.crossbeam_deque.specs.Handles.{worker_view}
-use Rattle.branch_pool.specs.Seats.{IsOwner}
+use Rattle.branch_pool.specs.Parts.{IsOwner}
 use Rattle.branch_pool.proofs.pool.gathering.drained.Given as goal
 
 abbrev pub invariant-loop-branch : goal.invariant-loop-branch

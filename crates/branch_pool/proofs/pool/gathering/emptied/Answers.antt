@@ -4,7 +4,7 @@ use Rattle.std.proofs.lemmas.List.Sorted.{length_permutation}
 use Rattle.crossbeam_deque.specs.declared.handles.Worker.{Worker}
 use Rattle.branch_pool.specs.declared.rule.SeatView.{SeatView}
 use Rattle.branch_pool.specs.declared.rule.PoolRule.{PoolRule}
-use Rattle.branch_pool.specs.Seats.{IsOwner, own_offered, own_taken, own_parts}
+use Rattle.branch_pool.specs.Parts.{IsOwner, own_offered, own_taken, own_parts}
 use Rattle.branch_pool.proofs.Fresh.{all_pop}
 use Rattle.branch_pool.proofs.Joined.{sum_popped, sum_le, prefix_popped, more_emptied}
 use Rattle.branch_pool.proofs.pool.gathering.emptied.Goals as goal

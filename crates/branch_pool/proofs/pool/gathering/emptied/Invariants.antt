@@ -1,6 +1,6 @@
 use Rattle.std.proofs.Common.{◌≡◌, ◌≤◌, ◌++◌, ◌+◌, length, take, drop, vec_len, vec_capacity, IsPermutation}
 use Rattle.std.specs.List.{All, flat_map, sum_by}
-use Rattle.branch_pool.specs.Seats.{IsOwner, own_offered, own_taken, own_parts}
+use Rattle.branch_pool.specs.Parts.{IsOwner, own_offered, own_taken, own_parts}
 use Rattle.branch_pool.proofs.pool.gathering.emptied.Given as goal
 
 abbrev pub invariant-loop-own : goal.invariant-loop-own

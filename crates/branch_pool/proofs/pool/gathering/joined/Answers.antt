@@ -6,7 +6,7 @@ use Rattle.crossbeam_deque.specs.Handles.{Pass, worker_deque}
 use Rattle.crossbeam_deque.specs.declared.handles.Worker.{Worker}
 use Rattle.branch_pool.specs.declared.rule.SeatView.{SeatView}
 use Rattle.branch_pool.specs.declared.rule.PoolRule.{PoolRule}
-use Rattle.branch_pool.specs.Seats.{Numbered, IsUsedRow, added, row, own_taken, own_parts, pass_taken, pass_parts}
+use Rattle.branch_pool.specs.Parts.{Numbered, IsUsedRow, added, row, own_taken, own_parts, pass_taken, pass_parts}
 use Rattle.branch_pool.proofs.Absorbed.{moved_over, flat_popped}
 use Rattle.branch_pool.proofs.Joined.{gained, gained_row, gained_first, gained_last, turned_pop}
 use Rattle.branch_pool.proofs.pool.gathering.joined.Goals as goal

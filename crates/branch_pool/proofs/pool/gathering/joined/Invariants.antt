@@ -1,7 +1,7 @@
 use Rattle.std.proofs.Common.{◌≡◌, ◌<◌, ◌≤◌, ◌++◌, ◌-◌, ◌+◌, length, map, vec_len, reverse, IsPermutation}
 use Rattle.std.specs.List.{All, flat_map, range_with_len}
 use Rattle.crossbeam_deque.specs.Handles.{worker_deque}
-use Rattle.branch_pool.specs.Seats.{IsOwner, Numbered, IsUsedRow, own_offered, own_taken, own_parts, pass_taken}
+use Rattle.branch_pool.specs.Parts.{IsOwner, Numbered, IsUsedRow, own_offered, own_taken, own_parts, pass_taken}
 use Rattle.branch_pool.proofs.Joined.{gained}
 use Rattle.branch_pool.proofs.pool.gathering.joined.Given as goal
 

@@ -8,7 +8,7 @@ use Rattle.crossbeam_deque.specs.Handles.{worker_port, worker_view, worker_flavo
 use Rattle.crossbeam_deque.specs.declared.handles.Worker.{Worker}
 use Rattle.branch_pool.specs.declared.rule.SeatView.{SeatView}
 use Rattle.branch_pool.specs.declared.rule.PoolRule.{PoolRule}
-use Rattle.branch_pool.specs.Seats.{IsOwner, own_offered, own_taken, own_parts}
+use Rattle.branch_pool.specs.Parts.{IsOwner, own_offered, own_taken, own_parts}
 use Rattle.branch_pool.proofs.Balance.{learns}
 use Rattle.branch_pool.proofs.Stolen.{same_place}
 use Rattle.branch_pool.proofs.Joined.{take_whole}

@@ -1,7 +1,7 @@
 use Rattle.std.proofs.Common.{◌≡◌, ◌≤◌, length, map, take}
 use Rattle.std.specs.List.{All}
 use Rattle.crossbeam_deque.specs.Handles.{worker_view}
-use Rattle.branch_pool.specs.Seats.{IsOwner, own_offered, own_taken, own_parts}
+use Rattle.branch_pool.specs.Parts.{IsOwner, own_offered, own_taken, own_parts}
 use Rattle.branch_pool.proofs.pool.gathering.learned.Given as goal
 
 abbrev pub invariant-loop-at : goal.invariant-loop-at

@@ -1,7 +1,7 @@
 use Rattle.std.proofs.Common.{arith, ◌≡◌, ◌-◌, ◌+◌, ap}
 use Rattle.crossbeam_deque.specs.Handles.{worker_port, worker_view}
 use Rattle.branch_pool.specs.declared.rule.SeatView.{SeatView}
-use Rattle.branch_pool.specs.Seats.{keeps}
+use Rattle.branch_pool.specs.Parts.{keeps}
 use Rattle.branch_pool.proofs.Balance.{deals, guests}
 use Rattle.branch_pool.proofs.Dealt.{keeps_more}
 use Rattle.branch_pool.proofs.pool.opening.dealt.Goals as goal

@@ -9,7 +9,7 @@ use Rattle.branch_pool.specs.declared.rule.SeatView.{SeatView}
 use Rattle.branch_pool.specs.declared.rule.PoolRule.{PoolRule}
 use Rattle.branch_pool.proofs.Stolen.{same_place}
 use Rattle.branch_pool.proofs.Dealt.{view_at, views_step, passes_step, deques_step, all_more}
-use Rattle.branch_pool.specs.Seats.{IsOwner}
+use Rattle.branch_pool.specs.Parts.{IsOwner}
 use Rattle.branch_pool.proofs.pool.opening.dealt_row.Goals as goal
 
 pub loop-at-preserved : goal.loop-at-preserved

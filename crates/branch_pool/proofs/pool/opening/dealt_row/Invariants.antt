@@ -1,7 +1,7 @@
 use Rattle.std.proofs.Common.{◌≡◌, ◌≤◌, ◌-◌, length, map, take, vec_capacity, vec_len, None}
 use Rattle.std.specs.List.{All}
 use Rattle.crossbeam_deque.specs.Handles.{view, worker_deque, worker_view}
-use Rattle.branch_pool.specs.Seats.{IsOwner, worker_views, pass_views}
+use Rattle.branch_pool.specs.Parts.{IsOwner, worker_views, pass_views}
 use Rattle.branch_pool.proofs.pool.opening.dealt_row.Given as goal
 
 abbrev pub invariant-loop-at : goal.invariant-loop-at

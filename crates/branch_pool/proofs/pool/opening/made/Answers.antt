@@ -5,7 +5,7 @@ use Rattle.crossbeam_deque.specs.declared.handles.Stealer.{Stealer}
 use Rattle.branch_pool.specs.declared.rule.SeatView.{SeatView}
 use Rattle.branch_pool.specs.declared.rule.PoolRule.{PoolRule}
 use Rattle.branch_pool.proofs.Dealt.{both_more, views_more, all_more}
-use Rattle.branch_pool.specs.Seats.{IsOwner}
+use Rattle.branch_pool.specs.Parts.{IsOwner}
 use Rattle.branch_pool.proofs.pool.opening.made.Goals as goal
 
 pub loop-turn-preserved : goal.loop-turn-preserved

@@ -1,7 +1,7 @@
 use Rattle.std.proofs.Common.{◌≡◌, ◌≤◌, map, vec_capacity, vec_len}
 use Rattle.std.specs.List.{All}
 use Rattle.crossbeam_deque.specs.Handles.{worker_deque, worker_view, stealer_deque, stealer_flavor}
-use Rattle.branch_pool.specs.Seats.{IsOwner, worker_views}
+use Rattle.branch_pool.specs.Parts.{IsOwner, worker_views}
 use Rattle.branch_pool.proofs.pool.opening.made.Given as goal
 
 abbrev pub invariant-loop-turn : goal.invariant-loop-turn

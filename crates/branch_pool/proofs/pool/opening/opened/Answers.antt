@@ -7,7 +7,8 @@ use Rattle.crossbeam_deque.specs.declared.handles.Stealer.{Stealer}
 use Rattle.branch_pool.specs.declared.rule.SeatView.{SeatView}
 use Rattle.branch_pool.specs.declared.rule.PoolRule.{PoolRule}
 use Rattle.branch_pool.specs.Rule.{view_of}
-use Rattle.branch_pool.specs.Seats.{SeatData, AreAllSeats, took, IsRow, worker_views, pass_views}
+use Rattle.branch_pool.specs.Parts.{IsRow, worker_views, pass_views}
+use Rattle.branch_pool.specs.Seats.{SeatData, AreAllSeats, all_taken}
 use Rattle.branch_pool.proofs.Dealt.{view_at}
 use Rattle.branch_pool.proofs.Fresh.{numbered_more, next_row, keeps_last}
 use Rattle.branch_pool.proofs.pool.opening.opened.Goals as goal

@@ -1,7 +1,7 @@
 use Rattle.std.proofs.Common.{◌≡◌, ◌≤◌, ◌-◌, ◌+◌, length, map, vec_capacity, vec_len}
 use Rattle.std.specs.List.{All}
 use Rattle.crossbeam_deque.specs.Handles.{worker_deque, worker_view, stealer_deque}
-use Rattle.branch_pool.specs.Seats.{IsOwner, worker_views, Numbered, IsRow}
+use Rattle.branch_pool.specs.Parts.{IsOwner, worker_views, Numbered, IsRow}
 use Rattle.branch_pool.proofs.pool.opening.opened.Given as goal
 
 abbrev pub invariant-loop-number : goal.invariant-loop-number

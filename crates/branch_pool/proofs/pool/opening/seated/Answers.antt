@@ -5,7 +5,8 @@ use Rattle.crossbeam_deque.specs.declared.handles.Worker.{Worker}
 use Rattle.branch_pool.specs.declared.rule.SeatView.{SeatView}
 use Rattle.branch_pool.specs.declared.rule.PoolRule.{PoolRule}
 use Rattle.branch_pool.specs.Rule.{view_of}
-use Rattle.branch_pool.specs.Seats.{IsOwner, fresh_seat, IsRow}
+use Rattle.branch_pool.specs.Parts.{IsOwner, IsRow}
+use Rattle.branch_pool.specs.Seats.{fresh_seat}
 use Rattle.branch_pool.proofs.Fresh.{numbered_places, numbered_pop, all_pop, fresh_invariant, fresh_view, fresh_list}
 use Rattle.branch_pool.proofs.pool.opening.seated.Goals as goal
 

@@ -2,7 +2,8 @@ use Rattle.std.proofs.Common.{◌≡◌, ◌≤◌, ◌-◌, ◌+◌, [], length
 use Rattle.std.specs.List.{All, range_with_len}
 use Rattle.crossbeam_deque.specs.Handles.{worker_deque, worker_view}
 use Rattle.branch_pool.specs.Rule.{view_of}
-use Rattle.branch_pool.specs.Seats.{IsOwner, fresh_seat, Numbered, IsRow}
+use Rattle.branch_pool.specs.Parts.{IsOwner, Numbered, IsRow}
+use Rattle.branch_pool.specs.Seats.{fresh_seat}
 use Rattle.branch_pool.proofs.pool.opening.seated.Given as goal
 
 abbrev pub invariant-loop-own : goal.invariant-loop-own
