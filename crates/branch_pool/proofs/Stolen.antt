@@ -12,7 +12,7 @@ use Rattle.crossbeam_deque.specs.Handles.{Pass, view}
 use Rattle.branch_pool.specs.declared.rule.SeatView.{SeatView}
 use Rattle.branch_pool.specs.Rule.{HoldsAtMost}
 use Rattle.branch_pool.specs.Parts.{row, taken_with}
-use Rattle.branch_pool.specs.Seats.{DequeId, SeatData, taken_from, all_taken, with_taken, own_view, other_view}
+use Rattle.branch_pool.specs.Seats.{DequeId, PoolData, SeatData, IsSeatOf, taken_from, all_taken, with_taken, own_view, other_view}
 use Rattle.branch_pool.proofs.Balance.{part_of}
 
 pub same_place : {X Y D : Type 0} (f : X → D) (h : Y → D) (xs : List X) (ys : List Y) (i : ℕ) (d : X) (e : Y) → map f xs ≡ map h ys → i < length xs → f (get_or xs i d) ≡ h (get_or ys i e)
@@ -60,40 +60,59 @@ module _ {B : Type 0} where
   pub took_view : (n : ℕ) (ds : List DequeId) (o o' t t' : List B) (ls : List (List B)) (b : B) → n - 1 < length ls → o' ≡ o → t' ≡ t ++ b ∷ [] → seen n ds o' (taken_with n t' ls) ≡ with_taken (seen n ds o (taken_with n t ls)) n b
   took_view n ds o o' t t' ls b lt same more = rw same (ap (λ x. seen n ds o x) (own_more ls (n - 1) t t' b lt more))
 
+  -- a seat, as its worker and its passes tell of it
+  abbrev pub told : ℕ → List B → List B → List (P B) → SeatData B
+  told n offered own ps = seen n (map D ps) offered (taken_with n own (map T ps))
+
+  pub taken_length : (n : ℕ) (own : List B) (ps : List (P B)) → length (taken_with n own (map T ps)) ≡ length ps
+  taken_length n own ps = length-set (map T ps) (n - 1) own ∙ length-map ps T
+
+  -- where the pass of another seat's deque stands
+  pub its_place : (p : PoolData) (s : SeatData B) (n k : ℕ) (offered own : List B) (ps : List (P B)) → told n offered own ps ≡ s → IsSeatOf p s → 1 ≤ k → k ≤ length p.deques → k ≢ s.number → 1 ≤ n
+      → (k - 1 < length ps) × ((k - 1) + 1 ≢ n) × (k - 1 ≢ n - 1) × (k - 1 < length (taken_with n own (map T ps)))
+  its_place p s n k offered own ps is of least most other one =
+      let m : length p.deques ≡ length ps = ap length (sym of ∙ sym (ap (λ (s : SeatData B). s.deques) is)) ∙ length-map ps D in
+      let e : n ≡ s.number = ap (λ (s : SeatData B). s.number) is in (
+        omega (arith, m),
+        (λ x. other (omega (arith, x, e, least))),
+        (λ x. other (omega (arith, x, e, least, one))),
+        omega (arith, m, taken_length n own ps),
+      )
+
   -- the seat after it stole
-  pub stolen_view : (n k : ℕ) (offered own : List B) (ps : List (P B)) (i : ℕ) (q d : P B) (b : B) → i < length ps → i ≢ n - 1 → i ≡ k - 1 → q.rows ≡ (get_or ps i d).rows → q.heap ≡ (get_or ps i d).heap → T q ≡ T (get_or ps i d) ++ b ∷ []
-      → seen n (map D (set ps i q)) offered (taken_with n own (map T (set ps i q)))
-      ≡ with_taken (seen n (map D ps) offered (taken_with n own (map T ps))) k b
-  stolen_view n k offered own ps i q d b lt other at r h t =
-      let ds : map D (set ps i q) ≡ map D ps = map-set_same D ps i q d (rw r (rw h refl)) in
-      let ts : map T (set ps i q) ≡ set (map T ps) i (get_or (map T ps) i [] ++ b ∷ []) = map-set T ps i q ∙ ap (λ x. set (map T ps) i x) (t ∙ ap (λ (x : List B). x ++ b ∷ []) (sym (get_or-map T ps i d [] lt))) in
+  pub stolen_view : (n k : ℕ) (offered own : List B) (ps : List (P B)) (q d : P B) (b : B) → k - 1 < length ps → k - 1 ≢ n - 1 → d ≡ get_or ps (k - 1) d → q.rows ≡ d.rows → q.heap ≡ d.heap → T q ≡ T d ++ b ∷ []
+      → told n offered own (set ps (k - 1) q) ≡ with_taken (told n offered own ps) k b
+  stolen_view n k offered own ps q d b lt other v r h t =
+      let i = k - 1 in
+      let ds : map D (set ps i q) ≡ map D ps = map-set_same D ps i q d (rw (r ∙ ap (λ (p : P B). p.rows) v) (rw (h ∙ ap (λ (p : P B). p.heap) v) refl)) in
+      let ts : map T (set ps i q) ≡ set (map T ps) i (get_or (map T ps) i [] ++ b ∷ []) = map-set T ps i q ∙ ap (λ x. set (map T ps) i x) (t ∙ ap (λ (x : List B). x ++ b ∷ []) (ap T v ∙ sym (get_or-map T ps i d [] lt))) in
       let both : taken_with n own (map T (set ps i q)) ≡ set (taken_with n own (map T ps)) i (get_or (taken_with n own (map T ps)) i [] ++ b ∷ []) =
       ap (λ l. taken_with n own l) ts ∙ other_more (map T ps) i (n - 1) own b other in
-      rw ds (ap (λ l. seen n (map D ps) offered l) (both ∙ ap (λ j. set (taken_with n own (map T ps)) j (get_or (taken_with n own (map T ps)) j [] ++ b ∷ [])) at))
+      rw ds (ap (λ l. seen n (map D ps) offered l) both)
 
-  pub same_view : (n : ℕ) (offered own : List B) (ps : List (P B)) (i : ℕ) (q d : P B) → q.rows ≡ (get_or ps i d).rows → q.heap ≡ (get_or ps i d).heap → T q ≡ T (get_or ps i d)
-      → seen n (map D (set ps i q)) offered (taken_with n own (map T (set ps i q)))
-      ≡ seen n (map D ps) offered (taken_with n own (map T ps))
-  same_view n offered own ps i q d r h t =
-      let ds : map D (set ps i q) ≡ map D ps = map-set_same D ps i q d (rw r (rw h refl)) in
-      let ts : map T (set ps i q) ≡ map T ps = map-set_same T ps i q d t in
+  pub same_view : (n : ℕ) (offered own : List B) (ps : List (P B)) (i : ℕ) (q d : P B) → d ≡ get_or ps i d → q.rows ≡ d.rows → q.heap ≡ d.heap → T q ≡ T d → told n offered own (set ps i q) ≡ told n offered own ps
+  same_view n offered own ps i q d v r h t =
+      let ds : map D (set ps i q) ≡ map D ps = map-set_same D ps i q d (rw (r ∙ ap (λ (p : P B). p.rows) v) (rw (h ∙ ap (λ (p : P B). p.heap) v) refl)) in
+      let ts : map T (set ps i q) ≡ map T ps = map-set_same T ps i q d (t ∙ ap T v) in
       rw ds (rw ts refl)
 
   -- what the rules of the deques know of a seat
-  pub own_seen : (n : ℕ) (v : SeatView B) (ps : List (P B)) → n - 1 < length ps → v.parts ≡ 65 - length ps → v ≡ own_view (seen n (map D ps) v.offered (taken_with n v.taken (map T ps)))
-  own_seen n v ps lt parts =
+  pub own_seen : (n : ℕ) (v : SeatView B) (ps : List (P B)) → 1 ≤ n → n ≤ length ps → v.parts ≡ 65 - length ps → v ≡ own_view (told n v.offered v.taken ps)
+  own_seen n v ps one below parts =
       let len : length (map D ps) ≡ length ps = length-map ps D in
       let tl : length (map T ps) ≡ length ps = length-map ps T in
-      let t : get_or (taken_with n v.taken (map T ps)) (n - 1) [] ≡ v.taken = get_or-set_same (map T ps) (n - 1) v.taken [] (omega (arith, tl, lt)) in
+      let t : get_or (taken_with n v.taken (map T ps)) (n - 1) [] ≡ v.taken = get_or-set_same (map T ps) (n - 1) v.taken [] (omega (arith, tl, one, below)) in
       let e : 65 - length (map D ps) ≡ v.parts = omega (arith, len, parts) in
       sym (rw (e, t) refl)
 
-  pub other_seen : (n k : ℕ) (offered own : List B) (ps : List (P B)) (i : ℕ) (d : P B) → i < length ps → i ≢ n - 1 → i ≡ k - 1 → (view (get_or ps i d)).parts ≡ 1 → (view (get_or ps i d)).offered ≡ []
-      → view (get_or ps i d) ≡ other_view (seen n (map D ps) offered (taken_with n own (map T ps))) k
-  other_seen n k offered own ps i d lt other at parts none =
-      let t : get_or (taken_with n own (map T ps)) (k - 1) [] ≡ T (get_or ps i d) =
-      ap (λ j. get_or (taken_with n own (map T ps)) j []) (sym at) ∙ get_or-set_other (map T ps) (n - 1) i own [] other ∙ get_or-map T ps i d [] lt in
-      sym (rw (t, sym parts, sym none) refl)
+  pub other_seen : (n k : ℕ) (offered own : List B) (ps : List (P B)) (d : P B) → k - 1 < length ps → k - 1 ≢ n - 1 → (k - 1) + 1 ≢ n → d ≡ get_or ps (k - 1) d → map (λ (p : P B). p.me.view.client.parts) ps ≡ row n (length ps)
+      → All (λ (p : P B). (p.me.hand ≡ None) × (p.me.spare ≡ None) × (p.me.view.client.offered ≡ [])) ps → view d ≡ other_view (told n offered own ps) k
+  other_seen n k offered own ps d lt other apart v rows quiet =
+      let i = k - 1 in
+      let one : (view d).parts ≡ 1 = ap (λ (p : P B). (view p).parts) v ∙ some_part ps n i d rows lt apart in
+      let none : (view d).offered ≡ [] = ap (λ (p : P B). (view p).offered) v ∙ (quiet i d lt).2 in
+      let t : get_or (taken_with n own (map T ps)) i [] ≡ T d = get_or-set_other (map T ps) (n - 1) i own [] other ∙ get_or-map T ps i d [] lt ∙ sym (ap T v) in
+      sym (rw (t, sym one, sym none) refl)
 
   abbrev pub Quiet : P B → Type 0
   Quiet p = (p.me.hand ≡ None) × (p.me.spare ≡ None) × (p.me.view.client.offered ≡ [])

@@ -2,7 +2,7 @@ use Rattle.std.proofs.Common.{arith, ◌∷◌, [], length, length-append, ap, �
 use Rattle.std.proofs.lemmas.List.Sorted.{IsPermutation-append_comm, length_permutation}
 use Rattle.crossbeam_deque.specs.Handles.{worker_port, worker_view}
 use Rattle.branch_pool.specs.declared.rule.SeatView.{SeatView}
-use Rattle.branch_pool.proofs.Balance.{takes, finds}
+use Rattle.branch_pool.proofs.Balance.{takes, finds, part_of}
 use Rattle.branch_pool.proofs.Drained.{more_left, all_left}
 use Rattle.branch_pool.proofs.pool.gathering.drained.Goals as goal
 
@@ -33,7 +33,7 @@ loop-branch-preserved g c =
 pub returns-clause-kept : goal.returns-clause-kept
 returns-clause-kept g c =
     let v = c.loop-branch.invariant in
-    let r = c.in_default.ensures.rule.1 in
+    let r = part_of (worker_view c.loop-branch.own) c.in_default.ensures.rule.1 in
     let none : (worker_view c.loop-branch.own).taken ++ r.0 ≡ (worker_view c.loop-branch.own).taken = ap (λ (x : List g.row.B.Denot). (worker_view c.loop-branch.own).taken ++ x) (r.2 v.1) ∙ append-nil (worker_view c.loop-branch.own).taken in
     let learned : IsPermutation (worker_view c.loop-branch.own).offered (worker_view c.loop-branch.own).taken = subst (λ (x : List g.row.B.Denot). IsPermutation (worker_view c.loop-branch.own).offered x) none r.1 in
     all_left (worker_view c.args.own).offered (worker_view c.loop-branch.own).taken (worker_view c.args.own).taken c.loop-branch.left.items c.args.left.now.items (subst (λ l. IsPermutation l (worker_view c.loop-branch.own).taken) v.2 learned) v.3

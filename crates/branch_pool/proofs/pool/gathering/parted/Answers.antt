@@ -67,5 +67,6 @@ pub returns-clause-taken : goal.returns-clause-taken
 returns-clause-taken g c =
     let none : c.loop-seat.seats.items ≡ [] = search rules in
     let row_taken : Vec (Pass g.row.B.Denot (SeatView g.row.B.Denot) Global) Global → List g.row.B.Denot = λ r. flat_map pass_taken r.items in
-    turned_workers (own_taken {B = g.row.B.Denot}) c.loop-seat.workers.items (taken_by c.args.seats.items) (flat_map row_taken c.loop-seat.rows.items)
-    (subst (λ (l : List (SeatData g.row.B.Denot)). IsPermutation (taken_by c.args.seats.items) (taken_by l ++ (flat_map own_taken c.loop-seat.workers.items ++ flat_map row_taken c.loop-seat.rows.items))) none c.loop-seat.invariant.6)
+    subst (λ (l : List (Worker g.row.B.Denot Global (SeatView g.row.B.Denot) PoolRule)). IsPermutation (taken_by c.args.seats.items) (flat_map own_taken l ++ flat_map row_taken c.loop-seat.rows.items)) (sym c.reverse.ensures.items)
+    (turned_workers (own_taken {B = g.row.B.Denot}) c.loop-seat.workers.items (taken_by c.args.seats.items) (flat_map row_taken c.loop-seat.rows.items)
+    (subst (λ (l : List (SeatData g.row.B.Denot)). IsPermutation (taken_by c.args.seats.items) (taken_by l ++ (flat_map own_taken c.loop-seat.workers.items ++ flat_map row_taken c.loop-seat.rows.items))) none c.loop-seat.invariant.6))
