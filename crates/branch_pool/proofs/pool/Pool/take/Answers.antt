@@ -38,8 +38,8 @@ returns-in_err-newest-clause-alone g c =
     let own : w ≡ own_view s = own_seen c.seat.inside.number w ps i.0 i.1 i.4 in
     let empty : HoldsAtMost 0 0 (own_view s) = subst (λ (v : SeatView g.row.B.Denot). HoldsAtMost 0 0 v) own c.in_err-newest.ensures.rule.1 in
     rw (← c.seat.view_is) (λ one.
-        let n = length-map {B = DequeId} ps (λ (p : Pass g.row.B.Denot (SeatView g.row.B.Denot) Global). (p.rows, p.heap)) in
-        ((λ none. all_taken_alone s one (omega (arith, n, one, taken_length c.seat.inside.number w.taken ps)) (omega (arith, n, one, i.0, i.1)) empty), λ all. search rules))
+    let n = length-map {B = DequeId} ps (λ (p : Pass g.row.B.Denot (SeatView g.row.B.Denot) Global). (p.rows, p.heap)) in
+    ((λ none. all_taken_alone s one (omega (arith, n, one, taken_length c.seat.inside.number w.taken ps)) (omega (arith, n, one, i.0, i.1)) empty), λ all. search rules))
 
 pub invariant_of-seat-2 : goal.invariant_of-seat-2
 invariant_of-seat-2 g c =
@@ -112,5 +112,5 @@ returns-clause-alone g c =
     let r = c.in_ok-newest.ensures.rule.1 in
     let held = subst (λ (v : SeatView g.row.B.Denot). IsPermutation v.offered (v.taken ++ c.in_ok-newest.newest ∷ r.0)) own r.1 in
     rw (← c.seat.view_is) (λ one.
-        let n = length-map {B = DequeId} ps (λ (p : Pass g.row.B.Denot (SeatView g.row.B.Denot) Global). (p.rows, p.heap)) in
-        ((λ e. absurd (search (rules, e))), λ all. absurd (some_left_alone s c.in_ok-newest.newest r.0 (omega (arith, n, one, taken_length c.seat.inside.number w.taken ps)) (omega (arith, n, one, i.0, i.1)) held all)))
+    let n = length-map {B = DequeId} ps (λ (p : Pass g.row.B.Denot (SeatView g.row.B.Denot) Global). (p.rows, p.heap)) in
+    ((λ e. absurd (search (rules, e))), λ all. absurd (some_left_alone s c.in_ok-newest.newest r.0 (omega (arith, n, one, taken_length c.seat.inside.number w.taken ps)) (omega (arith, n, one, i.0, i.1)) held all)))
