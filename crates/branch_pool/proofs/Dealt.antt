@@ -72,25 +72,25 @@ both_more f h ps qs us vs p u more more' e is =
     ap (map f) more ∙ map-append f ps (p ∷ []) ∙ ap (λ l. l ++ f p ∷ []) e ∙ ap (λ x. map h us ++ x ∷ []) is ∙ sym (ap (map h) more' ∙ map-append h us (u ∷ []))
 
 module _ {B : Type 0} where
-  pub views_step : {W : Type 0} (f : W → SeatView B) (ws : List W) (m at n : ℕ) (w : W) → map f ws ≡ worker_views m at n → at < n → f w ≡ view_of (keeps m (at + 1) (at + 1)) [] [] → map f (set ws at w) ≡ worker_views m (at + 1) n
-  views_step f ws m at n w e lt is =
-      let H : ℕ → SeatView B = λ k. view_of (keeps m (at + 1) k) [] [] in
+  pub views_step : {W : Type 0} (f : W → SeatView B) (ws : List W) (seats m at n : ℕ) (w : W) → map f ws ≡ worker_views seats m at n → at < n → f w ≡ view_of seats (keeps m (at + 1) (at + 1)) [] [] → map f (set ws at w) ≡ worker_views seats m (at + 1) n
+  views_step f ws seats m at n w e lt is =
+      let H : ℕ → SeatView B = λ k. view_of seats (keeps m (at + 1) k) [] [] in
       let turn : at + 1 ≡ 1 + at = omega arith in
       let is' : f w ≡ H (1 + at) = is ∙ ap H turn in
-      map-set f ws at w ∙ ap (λ l. set l at (f w)) e ∙ ap (λ x. set (worker_views m at n) at x) is'
-      ∙ set_range (λ k. view_of (keeps m at k) [] []) H 1 n at lt (λ k no. ap (λ x. view_of x [] []) (keeps_other m at k (λ e. no (e ∙ turn))))
+      map-set f ws at w ∙ ap (λ l. set l at (f w)) e ∙ ap (λ x. set (worker_views seats m at n) at x) is'
+      ∙ set_range (λ k. view_of seats (keeps m at k) [] []) H 1 n at lt (λ k no. ap (λ x. view_of seats x [] []) (keeps_other m at k (λ e. no (e ∙ turn))))
 
-  pub passes_step : {W : Type 0} (f : W → SeatView B) (ps qs : List W) (number at : ℕ) (p : W) → qs ≡ ps ++ p ∷ [] → map f ps ≡ pass_views number at → f p ≡ view_of (cond (at + 1 == number) 0 1) [] [] → map f qs ≡ pass_views number (at + 1)
-  passes_step f ps qs number at p more e is =
-      let F : ℕ → SeatView B = λ k. view_of (cond (k == number) 0 1) [] [] in
-      ap (map f) more ∙ map-append f ps (p ∷ []) ∙ ap (λ l. l ++ f p ∷ []) e ∙ ap (λ x. pass_views number at ++ x ∷ []) is ∙ sym (snoc_range F 1 at ∙ ap (λ k. map F (range_with_len 1 at) ++ F k ∷ []) (omega arith))
+  pub passes_step : {W : Type 0} (f : W → SeatView B) (ps qs : List W) (seats number at : ℕ) (p : W) → qs ≡ ps ++ p ∷ [] → map f ps ≡ pass_views seats number at → f p ≡ view_of (cond (at + 1 == number) 0 seats) (cond (at + 1 == number) 0 1) [] [] → map f qs ≡ pass_views seats number (at + 1)
+  passes_step f ps qs seats number at p more e is =
+      let F : ℕ → SeatView B = λ k. view_of (cond (k == number) 0 seats) (cond (k == number) 0 1) [] [] in
+      ap (map f) more ∙ map-append f ps (p ∷ []) ∙ ap (λ l. l ++ f p ∷ []) e ∙ ap (λ x. pass_views seats number at ++ x ∷ []) is ∙ sym (snoc_range F 1 at ∙ ap (λ k. map F (range_with_len 1 at) ++ F k ∷ []) (omega arith))
 
-  pub view_at : {W : Type 0} (f : W → SeatView B) (ws : List W) (m at n i : ℕ) (d : W) → map f ws ≡ worker_views m at n → length ws ≡ n → i < n → f (get_or ws i d) ≡ view_of (keeps m at (i + 1)) [] []
-  view_at f ws m at n i d e len lt =
-      sym (get_or-map f ws i d (view_of 0 [] []) (omega (arith, len))) ∙ ap (λ l. get_or l i (view_of 0 [] [])) e
-      ∙ get_or-map-range_with_len (λ k. view_of (keeps m at k) [] []) 1 n i (i + 1) (view_of 0 [] []) lt (omega arith)
+  pub view_at : {W : Type 0} (f : W → SeatView B) (ws : List W) (seats m at n i : ℕ) (d : W) → map f ws ≡ worker_views seats m at n → length ws ≡ n → i < n → f (get_or ws i d) ≡ view_of seats (keeps m at (i + 1)) [] []
+  view_at f ws seats m at n i d e len lt =
+      sym (get_or-map f ws i d (view_of 0 0 [] []) (omega (arith, len))) ∙ ap (λ l. get_or l i (view_of 0 0 [] [])) e
+      ∙ get_or-map-range_with_len (λ k. view_of seats (keeps m at k) [] []) 1 n i (i + 1) (view_of 0 0 [] []) lt (omega arith)
 
-  pub views_more : {W : Type 0} (f : W → SeatView B) (ps qs : List W) (at : ℕ) (p : W) → qs ≡ ps ++ p ∷ [] → map f ps ≡ worker_views 0 0 at → f p ≡ view_of 64 [] [] → map f qs ≡ worker_views 0 0 (at + 1)
-  views_more f ps qs at p more e is =
-      let F : ℕ → SeatView B = λ k. view_of (keeps 0 0 k) [] [] in
-      ap (map f) more ∙ map-append f ps (p ∷ []) ∙ ap (λ l. l ++ f p ∷ []) e ∙ ap (λ x. worker_views 0 0 at ++ x ∷ []) (is ∙ ap (λ x. view_of x [] []) (sym (keeps_all (1 + at) (omega arith)))) ∙ sym (snoc_range F 1 at)
+  pub views_more : {W : Type 0} (f : W → SeatView B) (ps qs : List W) (seats at : ℕ) (p : W) → qs ≡ ps ++ p ∷ [] → map f ps ≡ worker_views seats 0 0 at → f p ≡ view_of seats 64 [] [] → map f qs ≡ worker_views seats 0 0 (at + 1)
+  views_more f ps qs seats at p more e is =
+      let F : ℕ → SeatView B = λ k. view_of seats (keeps 0 0 k) [] [] in
+      ap (map f) more ∙ map-append f ps (p ∷ []) ∙ ap (λ l. l ++ f p ∷ []) e ∙ ap (λ x. worker_views seats 0 0 at ++ x ∷ []) (is ∙ ap (λ x. view_of seats x [] []) (sym (keeps_all (1 + at) (omega arith)))) ∙ sym (snoc_range F 1 at)

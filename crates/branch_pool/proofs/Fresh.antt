@@ -1,7 +1,8 @@
 -- Workers and rows become seats.
-use Rattle.std.proofs.Common.{◌≡◌, ℕ, zero, suc, ◌<◌, ◌≤◌, ◌-◌, ◌+◌, ◌^◌, min, List, [], ◌∷◌, ◌++◌, map, length, get_or, set, refl, ap, sym, ◌∙◌, arith, cond, ◌==◌, subst, None, Some, Global, reverse}
+use Rattle.std.proofs.Common.{◌≡◌, ℕ, zero, suc, ◌<◌, ◌≤◌, ◌-◌, ◌+◌, ◌^◌, min, List, [], ◌∷◌, ◌++◌, map, length, get_or, set, refl, ap, sym, ◌∙◌, arith, cond, ◌==◌, Bool, true, false, subst, None, Some, Global, reverse}
 use Rattle.std.proofs.lemmas.List.{length-map, get_or-map, reverse-append}
 use Rattle.std.proofs.lemmas.Bool.Decides.{nat_tests}
+use Rattle.std.proofs.lemmas.List.FromFn.{get_or-map-range_with_len}
 use Rattle.std.specs.List.{All, range_with_len, flat_map}
 use Rattle.std.specs.Prelude.{IsPermutation}
 use Rattle.std.proofs.lemmas.List.Sorted.{IsPermutation-refl}
@@ -59,8 +60,8 @@ pub keeps_last : (m n k : ℕ) → m ≡ n → k < n → n ≤ 64 → keeps m 0 
 keeps_last m n k e lt most = rw e (grind (arith, nat_tests))
 
 -- between two rows
-pub next_row : {B : Type 0} (m n : ℕ) → m < n → n ≤ 64 → worker_views {B = B} m n n ≡ worker_views (m + 1) 0 n
-next_row {B = B} m n lt most = alike_range (λ k. view_of {B = B} (keeps m n k) [] []) (λ k. view_of (keeps (m + 1) 0 k) [] []) 1 n (λ k least below. ap (λ x. view_of {B = B} x [] []) (same m n k least below lt most))
+pub next_row : {B : Type 0} (seats m n : ℕ) → m < n → n ≤ 64 → worker_views {B = B} seats m n n ≡ worker_views seats (m + 1) 0 n
+next_row {B = B} seats m n lt most = alike_range (λ k. view_of {B = B} seats (keeps m n k) [] []) (λ k. view_of seats (keeps (m + 1) 0 k) [] []) 1 n (λ k least below. ap (λ x. view_of {B = B} seats x [] []) (same m n k least below lt most))
   where
     same : (m n k : ℕ) → 1 ≤ k → k < 1 + n → m < n → n ≤ 64 → keeps m n k ≡ keeps (m + 1) 0 k
     same m n k least below lt most = grind (arith, nat_tests)
@@ -93,6 +94,11 @@ P B = Pass B (SeatView B) Global
 unless_own : ℕ → ℕ → ℕ
 unless_own number k = cond (k == number) 0 1
 
+-- a pass with a part has the number of seats
+with_part : (b : Bool) (n : ℕ) → 0 < cond b 0 1 → cond b 0 n ≡ n
+with_part true n some_part = absurd (let h : 0 < 0 = some_part in omega (arith, h))
+with_part false n some_part = refl
+
 module _ {B : Type 0} where
   abbrev nothing : List B
   nothing = []
@@ -113,16 +119,16 @@ module _ {B : Type 0} where
   row_length ds k ps row = sym (length-map ps D) ∙ ap length row.own
 
   row_parts : (ds : List DequeId) (k : ℕ) (ps : List (P B)) → IsRow ds k ps → map N ps ≡ row k (length ds)
-  row_parts ds k ps r = sym (map_map (λ (p : P B). view p) (λ (h : SeatView B). h.parts) ps) ∙ ap (map (λ (h : SeatView B). h.parts)) r.views ∙ map_map (λ n. view_of {B = B} (cond (n == k) 0 1) [] []) (λ (h : SeatView B). h.parts) (range_with_len 1 (length ds))
+  row_parts ds k ps r = sym (map_map (λ (p : P B). view p) (λ (h : SeatView B). h.parts) ps) ∙ ap (map (λ (h : SeatView B). h.parts)) r.views ∙ map_map (λ n. view_of {B = B} (cond (n == k) 0 (length ds)) (cond (n == k) 0 1) [] []) (λ (h : SeatView B). h.parts) (range_with_len 1 (length ds))
 
   row_taken : (ds : List DequeId) (k : ℕ) (ps : List (P B)) → IsRow ds k ps → map T ps ≡ map (λ d. []) ds
   row_taken ds k ps r =
-      sym (map_map (λ (p : P B). view p) (λ (h : SeatView B). h.taken) ps) ∙ ap (map (λ (h : SeatView B). h.taken)) r.views ∙ map_map (λ n. view_of {B = B} (cond (n == k) 0 1) [] []) (λ (h : SeatView B). h.taken) (range_with_len 1 (length ds))
+      sym (map_map (λ (p : P B). view p) (λ (h : SeatView B). h.taken) ps) ∙ ap (map (λ (h : SeatView B). h.taken)) r.views ∙ map_map (λ n. view_of {B = B} (cond (n == k) 0 (length ds)) (cond (n == k) 0 1) [] []) (λ (h : SeatView B). h.taken) (range_with_len 1 (length ds))
       ∙ same_const [] (range_with_len 1 (length ds)) ds (length_range 1 (length ds))
 
   row_offered : (ds : List DequeId) (k : ℕ) (ps : List (P B)) → IsRow ds k ps → map (λ (p : P B). p.me.view.client.offered) ps ≡ map (λ d. []) ds
   row_offered ds k ps r =
-      sym (map_map (λ (p : P B). view p) (λ (h : SeatView B). h.offered) ps) ∙ ap (map (λ (h : SeatView B). h.offered)) r.views ∙ map_map (λ n. view_of {B = B} (cond (n == k) 0 1) [] []) (λ (h : SeatView B). h.offered) (range_with_len 1 (length ds))
+      sym (map_map (λ (p : P B). view p) (λ (h : SeatView B). h.offered) ps) ∙ ap (map (λ (h : SeatView B). h.offered)) r.views ∙ map_map (λ n. view_of {B = B} (cond (n == k) 0 (length ds)) (cond (n == k) 0 1) [] []) (λ (h : SeatView B). h.offered) (range_with_len 1 (length ds))
       ∙ same_const [] (range_with_len 1 (length ds)) ds (length_range 1 (length ds))
 
   nothing_at : {X : Type 0} (ds : List X) (i : ℕ) → get_or (map (λ (d : X). nothing) ds) i [] ≡ []
@@ -142,16 +148,25 @@ module _ {B : Type 0} where
       sym (get_or-map (λ (p : P B). p.me.view.client.offered) ps i d [] lt) ∙ ap (λ l. get_or l i []) (row_offered ds k ps r) ∙ nothing_at ds i in
       (q.0, q.1, e)
 
-  none_taken : (ds : List DequeId) (number : ℕ) (v : SeatView B) (ps : List (P B)) (n : ℕ) → IsRow ds number ps → v ≡ view_of n [] [] → taken_with number v.taken (map T ps) ≡ map (λ d. []) ds
-  none_taken ds number v ps n r is = rw (is, row_taken ds number ps r) (nothing_put ds (number - 1))
+  row_seats : (ds : List DequeId) (k : ℕ) (ps : List (P B)) → IsRow ds k ps → All (λ (p : P B). 0 < p.me.view.client.parts → p.me.view.client.seats ≡ length ps) ps
+  row_seats ds k ps r = λ i d lt.
+      let len = row_length ds k ps r in
+      let F : ℕ → SeatView B = λ n. view_of (cond (n == k) 0 (length ds)) (cond (n == k) 0 1) [] [] in
+      let e : view (get_or ps i d) ≡ F (i + 1) =
+      sym (get_or-map (λ (p : P B). view p) ps i d (view_of 0 0 [] []) lt) ∙ ap (λ l. get_or l i (view_of 0 0 [] [])) r.views ∙ get_or-map-range_with_len F 1 (length ds) i (i + 1) (view_of 0 0 [] []) (omega (arith, lt, len)) (omega arith) in
+      subst (λ (h : SeatView B). 0 < h.parts → h.seats ≡ length ps) (sym e) (λ some_part. with_part (i + 1 == k) (length ds) some_part ∙ sym len)
+
+  none_taken : (ds : List DequeId) (number : ℕ) (v : SeatView B) (ps : List (P B)) (m n : ℕ) → IsRow ds number ps → v ≡ view_of m n [] [] → taken_with number v.taken (map T ps) ≡ map (λ d. []) ds
+  none_taken ds number v ps m n r is = rw (is, row_taken ds number ps r) (nothing_put ds (number - 1))
 
   pub fresh_invariant : (ds : List DequeId) (number flavor port : ℕ) (own : DequeId) (v : SeatView B) (ps : List (P B)) → 1 ≤ number → number ≤ length ds → length ds ≤ 64 → IsRow ds number ps
-      → (flavor ≡ 1) × (port ≡ 0) → v ≡ view_of (65 - length ds) [] [] → get_or ds (number - 1) own ≡ own
+      → (flavor ≡ 1) × (port ≡ 0) → v ≡ view_of (length ds) (65 - length ds) [] [] → get_or ds (number - 1) own ≡ own
       → (1 ≤ number) × (number ≤ length ps) × (length ps ≤ 64) × ((flavor ≡ 1) × (port ≡ 0)) × (v.parts ≡ 65 - length ps) × (0 ≡ length v.offered) × All Quiet ps × (map N ps ≡ row number (length ps))
-      × (0 ≡ min (length (flat_map (λ l. l) (taken_with number v.taken (map T ps)))) (2 ^ 64 - 1)) × (get_or (map D ps) (number - 1) own ≡ own) × (get_or (map T ps) (number - 1) [] ≡ [])
+      × (0 ≡ min (length (flat_map (λ l. l) (taken_with number v.taken (map T ps)))) (2 ^ 64 - 1)) × (get_or (map D ps) (number - 1) own ≡ own) × (get_or (map T ps) (number - 1) [] ≡ []) × (v.seats ≡ length ps)
+      × All (λ (p : P B). 0 < p.me.view.client.parts → p.me.view.client.seats ≡ length ps) ps
   fresh_invariant ds number flavor port own v ps one below most r lifo is tie =
       let len = row_length ds number ps r in
-      let none : length (flat_map (λ l. l) (taken_with number v.taken (map T ps))) ≡ 0 = ap (λ (l : List (List B)). length (flat_map (λ l. l) l)) (none_taken ds number v ps (65 - length ds) r is) ∙ ap length (flat_none {B = B} ds) in (
+      let none : length (flat_map (λ l. l) (taken_with number v.taken (map T ps))) ≡ 0 = ap (λ (l : List (List B)). length (flat_map (λ l. l) l)) (none_taken ds number v ps (length ds) (65 - length ds) r is) ∙ ap length (flat_none {B = B} ds) in (
         one,
         omega (arith, len, below),
         omega (arith, len, most),
@@ -163,11 +178,13 @@ module _ {B : Type 0} where
         omega (arith, none),
         ap (λ l. get_or l (number - 1) own) r.own ∙ tie,
         ap (λ l. get_or l (number - 1) []) (row_taken ds number ps r) ∙ nothing_at ds (number - 1),
+        ap (λ (h : SeatView B). h.seats) is ∙ sym len,
+        row_seats ds number ps r,
       )
 
-  pub fresh_view : (ds : List DequeId) (number n : ℕ) (v : SeatView B) (ps : List (P B)) → IsRow ds number ps → v ≡ view_of n [] []
+  pub fresh_view : (ds : List DequeId) (number m n : ℕ) (v : SeatView B) (ps : List (P B)) → IsRow ds number ps → v ≡ view_of m n [] []
       → record { number = number; deques = map D ps; offered = v.offered; taken = taken_with number v.taken (map T ps) } ≡ fresh_seat ds number
-  fresh_view ds number n v ps r is = rw (none_taken ds number v ps n r is, ap (λ (h : SeatView B). h.offered) is, r.own) refl
+  fresh_view ds number m n v ps r is = rw (none_taken ds number v ps m n r is, ap (λ (h : SeatView B). h.offered) is, r.own) refl
 
   pub fresh_all : (ds : List DequeId) (n : ℕ) → length ds ≡ n → AreAllSeats {B = B} record { deques = ds } (map (λ k. fresh_seat ds k) (range_with_len 1 n))
   fresh_all ds n len = record {

@@ -38,6 +38,13 @@ module _ {B : Type 0} where
   pub has_part : (ps : List (P B)) (number i : ℕ) (d : P B) → map (λ (p : P B). p.me.view.client.parts) ps ≡ row number (length ps) → i < length ps → i + 1 ≢ number → 0 < (view (get_or ps i d)).parts
   has_part ps number i d rows lt other = let e = some_part ps number i d rows lt other in omega (arith, e)
 
+  -- a pass with a part has the number of seats
+  abbrev pub Seated : ℕ → P B → Type 0
+  Seated n p = 0 < p.me.view.client.parts → p.me.view.client.seats ≡ n
+
+  pub its_seats : (ps : List (P B)) (number i : ℕ) (d : P B) → map (λ (p : P B). p.me.view.client.parts) ps ≡ row number (length ps) → i < length ps → i + 1 ≢ number → All (Seated (length ps)) ps → (view (get_or ps i d)).seats ≡ length ps
+  its_seats ps number i d rows lt other seated = seated i d lt (has_part ps number i d rows lt other)
+
   abbrev D : P B → DequeId
   D p = (p.rows, p.heap)
 
@@ -97,36 +104,39 @@ module _ {B : Type 0} where
       rw ds (rw ts refl)
 
   -- what the rules of the deques know of a seat
-  pub own_seen : (n : ℕ) (v : SeatView B) (ps : List (P B)) → 1 ≤ n → n ≤ length ps → v.parts ≡ 65 - length ps → v ≡ own_view (told n v.offered v.taken ps)
-  own_seen n v ps one below parts =
+  pub own_seen : (n : ℕ) (v : SeatView B) (ps : List (P B)) → 1 ≤ n → n ≤ length ps → v.parts ≡ 65 - length ps → v.seats ≡ length ps → v ≡ own_view (told n v.offered v.taken ps)
+  own_seen n v ps one below parts seats =
       let len : length (map D ps) ≡ length ps = length-map ps D in
       let tl : length (map T ps) ≡ length ps = length-map ps T in
       let t : get_or (taken_with n v.taken (map T ps)) (n - 1) [] ≡ v.taken = get_or-set_same (map T ps) (n - 1) v.taken [] (omega (arith, tl, one, below)) in
       let e : 65 - length (map D ps) ≡ v.parts = omega (arith, len, parts) in
-      sym (rw (e, t) refl)
+      let m : length (map D ps) ≡ v.seats = len ∙ sym seats in
+      sym (rw (e, t, m) refl)
 
   pub other_seen : (n k : ℕ) (offered own : List B) (ps : List (P B)) (d : P B) → k - 1 < length ps → k - 1 ≢ n - 1 → (k - 1) + 1 ≢ n → d ≡ get_or ps (k - 1) d → map (λ (p : P B). p.me.view.client.parts) ps ≡ row n (length ps)
-      → All (λ (p : P B). (p.me.hand ≡ None) × (p.me.spare ≡ None) × (p.me.view.client.offered ≡ [])) ps → view d ≡ other_view (told n offered own ps) k
-  other_seen n k offered own ps d lt other apart v rows quiet =
+      → All (λ (p : P B). (p.me.hand ≡ None) × (p.me.spare ≡ None) × (p.me.view.client.offered ≡ [])) ps → All (Seated (length ps)) ps → view d ≡ other_view (told n offered own ps) k
+  other_seen n k offered own ps d lt other apart v rows quiet seated =
       let i = k - 1 in
       let one : (view d).parts ≡ 1 = ap (λ (p : P B). (view p).parts) v ∙ some_part ps n i d rows lt apart in
       let none : (view d).offered ≡ [] = ap (λ (p : P B). (view p).offered) v ∙ (quiet i d lt).2 in
       let t : get_or (taken_with n own (map T ps)) i [] ≡ T d = get_or-set_other (map T ps) (n - 1) i own [] other ∙ get_or-map T ps i d [] lt ∙ sym (ap T v) in
-      sym (rw (t, sym one, sym none) refl)
+      let many : length (map D ps) ≡ (view d).seats = length-map ps D ∙ sym (ap (λ (p : P B). (view p).seats) v ∙ its_seats ps n i d rows lt apart seated) in
+      sym (rw (t, sym one, sym none, many) refl)
 
   abbrev pub Quiet : P B → Type 0
   Quiet p = (p.me.hand ≡ None) × (p.me.spare ≡ None) × (p.me.view.client.offered ≡ [])
 
   -- what a seat's invariant asks of its passes, apart from how much they took
-  pub seat_kept : (number parts : ℕ) (own : DequeId) (ps : List (P B)) (i : ℕ) (q d : P B) → i < length ps → i ≢ number - 1 → d ≡ get_or ps i d
+  pub seat_kept : (number parts seats : ℕ) (own : DequeId) (ps : List (P B)) (i : ℕ) (q d : P B) → i < length ps → i ≢ number - 1 → d ≡ get_or ps i d
       → number ≤ length ps → length ps ≤ 64 → parts ≡ 65 - length ps → All Quiet ps → map (λ (p : P B). p.me.view.client.parts) ps ≡ row number (length ps) → get_or (map D ps) (number - 1) own ≡ own
-      → get_or (map T ps) (number - 1) [] ≡ []
-      → q.rows ≡ d.rows → q.heap ≡ d.heap → q.me.hand ≡ None → q.me.spare ≡ None → q.me.view.client.parts ≡ d.me.view.client.parts → q.me.view.client.offered ≡ d.me.view.client.offered
+      → get_or (map T ps) (number - 1) [] ≡ [] → seats ≡ length ps → All (Seated (length ps)) ps
+      → q.rows ≡ d.rows → q.heap ≡ d.heap → q.me.hand ≡ None → q.me.spare ≡ None → q.me.view.client.parts ≡ d.me.view.client.parts → q.me.view.client.offered ≡ d.me.view.client.offered → q.me.view.client.seats ≡ d.me.view.client.seats
       → (number ≤ length (set ps i q)) × (length (set ps i q) ≤ 64) × (parts ≡ 65 - length (set ps i q)) × All Quiet (set ps i q) × (map (λ (p : P B). p.me.view.client.parts) (set ps i q) ≡ row number (length (set ps i q))) × (get_or (map D (set ps i q)) (number - 1) own ≡ own)
-      × (get_or (map T (set ps i q)) (number - 1) [] ≡ [])
-  seat_kept number parts own ps i q d lt other v below most all quiet rows tie none r h hand spare same offers =
+      × (get_or (map T (set ps i q)) (number - 1) [] ≡ []) × (seats ≡ length (set ps i q)) × All (Seated (length (set ps i q))) (set ps i q)
+  seat_kept number parts seats own ps i q d lt other v below most all quiet rows tie none many seated r h hand spare same offers carries =
       let len : length (set ps i q) ≡ length ps = length-set ps i q in
       let here = All-get_or Quiet ps i d lt quiet in
+      let new : Seated (length ps) q = λ some_part. carries ∙ ap (λ (p : P B). p.me.view.client.seats) v ∙ seated i d lt (subst (λ n. 0 < n) (same ∙ ap (λ (p : P B). p.me.view.client.parts) v) some_part) in
       let ds : map D (set ps i q) ≡ map D ps = map-set_same D ps i q d (rw (r ∙ ap (λ (p : P B). p.rows) v) (rw (h ∙ ap (λ (p : P B). p.heap) v) refl)) in (
         omega (arith, len, below),
         omega (arith, len, most),
@@ -135,6 +145,8 @@ module _ {B : Type 0} where
         map-set_same (λ (p : P B). p.me.view.client.parts) ps i q d (same ∙ ap (λ (p : P B). p.me.view.client.parts) v) ∙ rows ∙ ap (row number) (sym len),
         ap (λ l. get_or l (number - 1) own) ds ∙ tie,
         ap (λ l. get_or l (number - 1) []) (map-set T ps i q) ∙ get_or-set_other (map T ps) i (number - 1) (T q) [] (λ e. other (sym e)) ∙ none,
+        many ∙ sym len,
+        subst (λ m. All (Seated m) (set ps i q)) (sym len) (All-set (Seated (length ps)) ps i q new seated),
       )
 
   more_flat : (ls : List (List B)) (i : ℕ) (b : B) → i < length ls → IsPermutation (b ∷ flat_map (λ l. l) ls) (flat_map (λ l. l) (set ls i (get_or ls i [] ++ b ∷ [])))

@@ -63,17 +63,17 @@ abbrev pub keeps : ℕ → ℕ → ℕ → ℕ
 keeps m at k = (64 - m) + one_if_upto k m - cond (k == m + 1) 0 (one_if_upto k at)
 
 -- what the workers know then
-abbrev pub worker_views : {B : Type 0} → ℕ → ℕ → ℕ → List (SeatView B)
-worker_views m at n = map (λ k. view_of (keeps m at k) [] []) (range_with_len 1 n)
+abbrev pub worker_views : {B : Type 0} → ℕ → ℕ → ℕ → ℕ → List (SeatView B)
+worker_views seats m at n = map (λ k. view_of seats (keeps m at k) [] []) (range_with_len 1 n)
 
 -- what the first passes of a row know
-abbrev pub pass_views : {B : Type 0} → ℕ → ℕ → List (SeatView B)
-pass_views number n = map (λ k. view_of (cond (k == number) 0 1) [] []) (range_with_len 1 n)
+abbrev pub pass_views : {B : Type 0} → ℕ → ℕ → ℕ → List (SeatView B)
+pass_views seats number n = map (λ k. view_of (cond (k == number) 0 seats) (cond (k == number) 0 1) [] []) (range_with_len 1 n)
 
 -- the passes of the seat of this number, as they are dealt
 pub record IsRow {B : Type 0} (deques : List DequeId) (number : ℕ) (ps : List (Pass B (SeatView B) Global)) : Type 0 where
   pub own : map (λ p. (p.rows, p.heap)) ps ≡ deques
-  pub views : map (λ p. view p) ps ≡ pass_views number (length deques)
+  pub views : map (λ p. view p) ps ≡ pass_views (length deques) number (length deques)
   pub quiet : All (λ p. (p.me.hand ≡ None) × (p.me.spare ≡ None)) ps
 
 -- the passes of the seat of this number, as they are when the pool closes

@@ -44,11 +44,11 @@ module _ {B : Type 0} where
 
   -- what the own deque's rule knows of a seat
   abbrev pub own_view : SeatData B → SeatView B
-  own_view s = view_of (65 - length s.deques) s.offered (taken_from s s.number)
+  own_view s = view_of (length s.deques) (65 - length s.deques) s.offered (taken_from s s.number)
 
   -- what the rule of the deque of another seat, k, knows of it
   abbrev pub other_view : SeatData B → ℕ → SeatView B
-  other_view s k = view_of 1 [] (taken_from s k)
+  other_view s k = view_of (length s.deques) 1 [] (taken_from s k)
 
   -- the seat of this number in a new pool
   abbrev pub fresh_seat : List DequeId → ℕ → SeatData B

@@ -68,7 +68,9 @@ impl<B> Model for Seat<B> {
         × (map (λ p. p.me.view.client.parts) s.passes.items ≡ row s.number (length s.passes.items))
         × (s.taken ≡ min (length (flat_map (λ l. l) (taken_with s.number (worker_view s.own).taken (map (λ p. p.me.view.client.taken) s.passes.items)))) (2 ^ 64 - 1))
         × (slice_index_or (map (λ p. (p.rows, p.heap)) s.passes.items) (s.number - 1) (worker_deque s.own) ≡ worker_deque s.own)
-        × (slice_index_or (map (λ p. p.me.view.client.taken) s.passes.items) (s.number - 1) [] ≡ []) };
+        × (slice_index_or (map (λ p. p.me.view.client.taken) s.passes.items) (s.number - 1) [] ≡ [])
+        × ((worker_view s.own).seats ≡ length s.passes.items)
+        × All (λ p. 0 < p.me.view.client.parts → p.me.view.client.seats ≡ length s.passes.items) s.passes.items };
 }
 
 impl<B: Drop> Pool<B> {
@@ -131,10 +133,10 @@ fn stolen<B: Drop, R: Wait>(
     stealer: &Other<B>,
     pass: &mut Pass<B, SeatView<B>>,
 ) -> Option<B>
-    requires { IsPassOf (stealer_deque stealer.now) pass.old × (0 < (view pass.old).parts) × (stealer_flavor stealer.now ≡ 1) }
+    requires { IsPassOf (stealer_deque stealer.now) pass.old × (0 < (view pass.old).parts) × ((view pass.old).seats ≢ 1) × (stealer_flavor stealer.now ≡ 1) }
     ensures same { SamePass pass.old pass.new }
-    ensures rest { ((view pass.new).parts ≡ (view pass.old).parts) × ((view pass.new).offered ≡ (view pass.old).offered) }
-    ensures some { IfSome result (λ b. view pass.new ≡ view_of (view pass.old).parts (view pass.old).offered ((view pass.old).taken ++ b ∷ [])) }
+    ensures rest { ((view pass.new).seats ≡ (view pass.old).seats) × ((view pass.new).parts ≡ (view pass.old).parts) × ((view pass.new).offered ≡ (view pass.old).offered) }
+    ensures some { IfSome result (λ b. view pass.new ≡ view_of (view pass.old).seats (view pass.old).parts (view pass.old).offered ((view pass.old).taken ++ b ∷ [])) }
     ensures none { IsNone result → view pass.new ≡ view pass.old }
     ensures few { IsNone result → (place : ℕ) × HoldsAtMost 1 place (view pass.old) }
 {

@@ -1,10 +1,14 @@
 //! The rule that each deque of a pool keeps, and the steps on it.
+ghost use Rattle.std.specs.Prelude.{ℕ};
+
 use crossbeam_deque::protocol::{Join, Lesson, Outcome, Protocol, Split};
 use std::collections::LinkedList;
+use std::marker::{Brand, PhantomData};
 
-/// What a deque's rule keeps of one seat: what the seat offered to the deque and took from it, and how many of 64 parts it has. A view with all
+/// What a deque's rule keeps of one seat: how many seats the pool has, what this one offered to the deque and took from it, and how many of 64 parts it has. A view with all
 /// parts knows all that was offered and taken. Views exist in proofs alone.
 pub struct SeatView<B> {
+    pub seats: u64,
     pub parts: u64,
     pub offered: LinkedList<B>,
     pub taken: LinkedList<B>,
@@ -19,9 +23,32 @@ impl<B> Protocol<B, SeatView<B>> for PoolRule {
 
     ghost holds = { IsBalanced };
 
-    ghost first = { view_of 64 [] [] };
+    ghost first = { view_of 0 64 [] [] };
 
-    ghost guest = { view_of 0 [] [] };
+    ghost guest = { view_of 0 0 [] [] };
+}
+
+/// A number of seats, which a proof picks where a pool is made.
+pub trait Size {
+    ghost seats: { ℕ };
+}
+
+impl Size for Brand {
+    ghost seats = { 0 };
+}
+
+/// The deque of a new pool learns the number of seats. A spent view comes off.
+pub struct Settle<N> {
+    of: PhantomData<N>,
+}
+
+impl<B, N: Size> Split<SeatView<B>> for Settle<N> {
+    ghost use Rattle.std.specs.Prelude.{[]};
+    ghost use Rattle.branch_pool.specs.Rule.{view_of};
+
+    ghost left = { λ v. view_of N.seats v.parts v.offered v.taken };
+
+    ghost right = { λ v. view_of 0 0 [] [] };
 }
 
 /// A part goes to another seat, which has offered and taken nothing yet.
@@ -31,9 +58,9 @@ impl<B> Split<SeatView<B>> for Deal {
     ghost use Rattle.std.specs.Prelude.{[], ◌-◌};
     ghost use Rattle.branch_pool.specs.Rule.{view_of};
 
-    ghost left = { λ v. view_of (v.parts - 1) v.offered v.taken };
+    ghost left = { λ v. view_of v.seats (v.parts - 1) v.offered v.taken };
 
-    ghost right = { λ v. view_of 1 [] [] };
+    ghost right = { λ v. view_of v.seats 1 [] [] };
 }
 
 /// One view takes the lists and parts of another, which is spent.
@@ -43,9 +70,9 @@ impl<B> Join<SeatView<B>> for Gather {
     ghost use Rattle.std.specs.Prelude.{[], ◌+◌, ◌++◌};
     ghost use Rattle.branch_pool.specs.Rule.{view_of};
 
-    ghost both = { λ v w. view_of (v.parts + w.parts) (v.offered ++ w.offered) (v.taken ++ w.taken) };
+    ghost both = { λ v w. view_of v.seats (v.parts + w.parts) (v.offered ++ w.offered) (v.taken ++ w.taken) };
 
-    ghost spent = { view_of 0 [] [] };
+    ghost spent = { view_of 0 0 [] [] };
 }
 
 /// A branch is offered.
@@ -55,7 +82,7 @@ impl<B> Outcome<B, SeatView<B>> for Offering {
     ghost use Rattle.std.specs.Prelude.{[], ◌∷◌, ◌++◌, ◌≡◌};
     ghost use Rattle.branch_pool.specs.Rule.{view_of};
 
-    ghost then = { λ v xs w. w ≡ view_of v.parts (v.offered ++ xs) v.taken };
+    ghost then = { λ v xs w. w ≡ view_of v.seats v.parts (v.offered ++ xs) v.taken };
 }
 
 /// The seat takes the newest branch of its own deque; none, where the deque is empty.
@@ -65,7 +92,7 @@ impl<B> Outcome<B, SeatView<B>> for Taking {
     ghost use Rattle.std.specs.Prelude.{[], ◌≡◌, ◌++◌, List, IsPermutation};
     ghost use Rattle.branch_pool.specs.Rule.{view_of, HoldsAtMost};
 
-    ghost then = { λ v xs w. (w ≡ view_of v.parts v.offered (v.taken ++ xs)) × ((rest : List B) × IsPermutation v.offered (v.taken ++ (xs ++ rest))) };
+    ghost then = { λ v xs w. (w ≡ view_of v.seats v.parts v.offered (v.taken ++ xs)) × ((rest : List B) × IsPermutation v.offered (v.taken ++ (xs ++ rest))) };
 
     ghost empty = { λ v. HoldsAtMost 0 0 v };
 }
@@ -77,7 +104,7 @@ impl<B> Outcome<B, SeatView<B>> for Stealing {
     ghost use Rattle.std.specs.Prelude.{◌≡◌, ◌++◌, ℕ};
     ghost use Rattle.branch_pool.specs.Rule.{view_of, HoldsAtMost};
 
-    ghost then = { λ v xs w. w ≡ view_of v.parts v.offered (v.taken ++ xs) };
+    ghost then = { λ v xs w. w ≡ view_of v.seats v.parts v.offered (v.taken ++ xs) };
 
     ghost empty = { λ v. (place : ℕ) × HoldsAtMost 1 place v };
 }

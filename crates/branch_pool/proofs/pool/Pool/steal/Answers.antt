@@ -5,7 +5,7 @@ use Rattle.crossbeam_deque.specs.Handles.{Pass, stealer_deque, stealer_flavor, v
 use Rattle.branch_pool.specs.declared.rule.SeatView.{SeatView}
 use Rattle.branch_pool.specs.Rule.{HoldsAtMost}
 use Rattle.branch_pool.specs.Seats.{SeatData, PoolData, all_taken, other_view}
-use Rattle.branch_pool.proofs.Stolen.{told, same_place, has_part, its_place, stolen_view, same_view, seat_kept, count_taken, more_taken, other_seen, same_deques}
+use Rattle.branch_pool.proofs.Stolen.{told, same_place, has_part, its_seats, its_place, stolen_view, same_view, seat_kept, count_taken, more_taken, other_seen, same_deques}
 use Rattle.branch_pool.proofs.pool.Pool.steal.Goals as goal
 
 pub stolen-requires : goal.stolen-requires
@@ -23,6 +23,7 @@ stolen-requires g c =
     rw (c.index_mut.ensures.value, c.index-stealer.ensures) (
       (ap (λ x. x.0) same, ap (λ x. x.1) same, rest.0, rest.1),
       has_part ps c.seat.inside.number (c.args.from - 1) _ i.7 at.0 at.1,
+      (λ e. at.2 (omega (arith, e, its_seats ps c.seat.inside.number (c.args.from - 1) c.index_mut.result.now i.7 at.0 at.1 i.12, at.0, i.0, i.1))),
       All-get_or (λ s. stealer_flavor s ≡ 1) ss (c.args.from - 1) _ (omega (arith, sl, at.0)) c.self.invariant.0,
     )
 
@@ -38,7 +39,7 @@ invariant_of-seat g c =
     let p = c.requires.place in
     let same = c.stolen.ensures.same in
     let at = its_place c.args.self.now c.args.seat.now n c.args.from w.offered w.taken ps c.seat.view_is c.requires.own p.0 p.1 p.2 i.0 in
-    let kept = seat_kept n w.parts (worker_deque c.seat.inside.own) ps (c.args.from - 1) q d at.0 at.2 v i.1 i.2 i.4 i.6 i.7 i.9 i.10 same.0 same.1 same.3 same.4 c.stolen.ensures.rest.0 c.stolen.ensures.rest.1 in
+    let kept = seat_kept n w.parts w.seats (worker_deque c.seat.inside.own) ps (c.args.from - 1) q d at.0 at.2 v i.1 i.2 i.4 i.6 i.7 i.9 i.10 i.11 i.12 same.0 same.1 same.3 same.4 c.stolen.ensures.rest.1 c.stolen.ensures.rest.2 c.stolen.ensures.rest.0 in
     let stays = same_view n w.offered w.taken ps (c.args.from - 1) q d v same.0 same.1 (ap (λ (h : SeatView g.row.B.Denot). h.taken) (c.in_err-oldest.ensures.none refl)) in (
       i.0,
       kept.0,
@@ -51,6 +52,8 @@ invariant_of-seat g c =
       i.8 ∙ ap (λ (s : SeatData g.row.B.Denot). min (length (all_taken s)) (2 ^ 64 - 1)) (sym stays),
       kept.5,
       kept.6,
+      kept.7,
+      kept.8,
     )
 
 pub invariant_of-seat-2 : goal.invariant_of-seat-2
@@ -65,7 +68,7 @@ invariant_of-seat-2 g c =
     let p = c.requires.place in
     let same = c.stolen.ensures.same in
     let at = its_place c.args.self.now c.args.seat.now n c.args.from w.offered w.taken ps c.seat.view_is c.requires.own p.0 p.1 p.2 i.0 in
-    let kept = seat_kept n w.parts (worker_deque c.seat.inside.own) ps (c.args.from - 1) q d at.0 at.2 v i.1 i.2 i.4 i.6 i.7 i.9 i.10 same.0 same.1 same.3 same.4 c.stolen.ensures.rest.0 c.stolen.ensures.rest.1 in
+    let kept = seat_kept n w.parts w.seats (worker_deque c.seat.inside.own) ps (c.args.from - 1) q d at.0 at.2 v i.1 i.2 i.4 i.6 i.7 i.9 i.10 i.11 i.12 same.0 same.1 same.3 same.4 c.stolen.ensures.rest.1 c.stolen.ensures.rest.2 c.stolen.ensures.rest.0 in
     let after = stolen_view n c.args.from w.offered w.taken ps q d c.in_ok-oldest.oldest at.0 at.2 v same.0 same.1 (ap (λ (h : SeatView g.row.B.Denot). h.taken) c.in_ok-oldest.ensures.some) in (
       i.0,
       kept.0,
@@ -78,6 +81,8 @@ invariant_of-seat-2 g c =
       count_taken (told n w.offered w.taken ps) _ c.args.from c.in_ok-oldest.oldest c.seat.inside.taken c.saturating_add-seat-inside.result at.3 after i.8 c.saturating_add-seat-inside.ensures,
       kept.5,
       kept.6,
+      kept.7,
+      kept.8,
     )
 
 pub returns-in_err-oldest-clause-none : goal.returns-in_err-oldest-clause-none
@@ -95,7 +100,7 @@ returns-in_err-oldest-clause-few g c =
     let i = c.seat.invariant in
     let p = c.requires.place in
     let at = its_place c.args.self.now c.args.seat.now n c.args.from w.offered w.taken ps c.seat.view_is c.requires.own p.0 p.1 p.2 i.0 in
-    let seen = other_seen n c.args.from w.offered w.taken ps c.index_mut.result.now at.0 at.2 at.1 c.index_mut.ensures.value i.7 i.6 ∙ ap (λ (s : SeatData g.row.B.Denot). other_view s c.args.from) c.seat.view_is in
+    let seen = other_seen n c.args.from w.offered w.taken ps c.index_mut.result.now at.0 at.2 at.1 c.index_mut.ensures.value i.7 i.6 i.12 ∙ ap (λ (s : SeatData g.row.B.Denot). other_view s c.args.from) c.seat.view_is in
     λ none. subst (λ (v : SeatView g.row.B.Denot). (place : ℕ) × HoldsAtMost 1 place v) seen (c.in_err-oldest.ensures.few refl)
 
 pub returns-clause-some : goal.returns-clause-some

@@ -18,14 +18,14 @@ pub returns-in_err-newest-clause-empty : goal.returns-in_err-newest-clause-empty
 returns-in_err-newest-clause-empty g c =
     let w = worker_view c.seat.inside.own in
     let i = c.seat.invariant in
-    let own : w ≡ own_view c.args.seat.now = own_seen c.seat.inside.number w c.seat.inside.passes.items i.0 i.1 i.4 ∙ ap (λ (s : SeatData g.row.B.Denot). own_view s) c.seat.view_is in
+    let own : w ≡ own_view c.args.seat.now = own_seen c.seat.inside.number w c.seat.inside.passes.items i.0 i.1 i.4 i.11 ∙ ap (λ (s : SeatData g.row.B.Denot). own_view s) c.seat.view_is in
     λ none. subst (λ (v : SeatView g.row.B.Denot). HoldsAtMost 0 0 v) own c.in_err-newest.ensures.rule.1
 
 pub returns-in_err-newest-clause-part : goal.returns-in_err-newest-clause-part
 returns-in_err-newest-clause-part g c =
     let w = worker_view c.seat.inside.own in
     let i = c.seat.invariant in
-    let own : w ≡ own_view c.args.seat.now = own_seen c.seat.inside.number w c.seat.inside.passes.items i.0 i.1 i.4 ∙ ap (λ (s : SeatData g.row.B.Denot). own_view s) c.seat.view_is in
+    let own : w ≡ own_view c.args.seat.now = own_seen c.seat.inside.number w c.seat.inside.passes.items i.0 i.1 i.4 i.11 ∙ ap (λ (s : SeatData g.row.B.Denot). own_view s) c.seat.view_is in
     let p = part_of (own_view c.args.seat.now) (subst (λ (v : SeatView g.row.B.Denot). HoldsAtMost 0 0 v) own c.in_err-newest.ensures.rule.1) in
     λ none. (p.0, p.1)
 
@@ -35,7 +35,7 @@ returns-in_err-newest-clause-alone g c =
     let ps = c.seat.inside.passes.items in
     let i = c.seat.invariant in
     let s = told c.seat.inside.number w.offered w.taken ps in
-    let own : w ≡ own_view s = own_seen c.seat.inside.number w ps i.0 i.1 i.4 in
+    let own : w ≡ own_view s = own_seen c.seat.inside.number w ps i.0 i.1 i.4 i.11 in
     let empty : HoldsAtMost 0 0 (own_view s) = subst (λ (v : SeatView g.row.B.Denot). HoldsAtMost 0 0 v) own c.in_err-newest.ensures.rule.1 in
     rw (← c.seat.view_is) (λ one.
     let n = length-map {B = DequeId} ps (λ (p : Pass g.row.B.Denot (SeatView g.row.B.Denot) Global). (p.rows, p.heap)) in
@@ -66,6 +66,8 @@ invariant_of-seat-2 g c =
       count_taken (told n w.offered w.taken ps) (told n w'.offered w'.taken ps) n c.in_ok-newest.newest c.seat.inside.taken c.saturating_add-seat-inside.result (omega (arith, lt, taken_length n w.taken ps)) after i.8 c.saturating_add-seat-inside.ensures,
       rw same.0.0 i.9,
       i.10,
+      ap (λ (v : SeatView g.row.B.Denot). v.seats) rule ∙ i.11,
+      i.12,
     )
 
 pub returns-clause-some : goal.returns-clause-some
@@ -98,7 +100,7 @@ pub returns-clause-held : goal.returns-clause-held
 returns-clause-held g c =
     let w = worker_view c.seat.inside.own in
     let i = c.seat.invariant in
-    let own : w ≡ own_view c.args.seat.now = own_seen c.seat.inside.number w c.seat.inside.passes.items i.0 i.1 i.4 ∙ ap (λ (s : SeatData g.row.B.Denot). own_view s) c.seat.view_is in
+    let own : w ≡ own_view c.args.seat.now = own_seen c.seat.inside.number w c.seat.inside.passes.items i.0 i.1 i.4 i.11 ∙ ap (λ (s : SeatData g.row.B.Denot). own_view s) c.seat.view_is in
     let r = c.in_ok-newest.ensures.rule.1 in
     (r.0, subst (λ (v : SeatView g.row.B.Denot). IsPermutation v.offered (v.taken ++ c.in_ok-newest.newest ∷ r.0)) own r.1)
 
@@ -108,7 +110,7 @@ returns-clause-alone g c =
     let ps = c.seat.inside.passes.items in
     let i = c.seat.invariant in
     let s = told c.seat.inside.number w.offered w.taken ps in
-    let own : w ≡ own_view s = own_seen c.seat.inside.number w ps i.0 i.1 i.4 in
+    let own : w ≡ own_view s = own_seen c.seat.inside.number w ps i.0 i.1 i.4 i.11 in
     let r = c.in_ok-newest.ensures.rule.1 in
     let held = subst (λ (v : SeatView g.row.B.Denot). IsPermutation v.offered (v.taken ++ c.in_ok-newest.newest ∷ r.0)) own r.1 in
     rw (← c.seat.view_is) (λ one.

@@ -26,11 +26,11 @@ loop-number-preserved g c =
     let len : length ds ≡ length ws = ap length i.0 ∙ length-map ws (λ (w : Worker g.row.B.Denot Global (SeatView g.row.B.Denot) PoolRule). worker_deque w) in
     let turn : (number - 1) + 1 ≡ number + 1 - 1 = omega (arith, i.5) in (
       i.0 ∙ sym e.0,
-      e.1 ∙ ap (λ k. worker_views {B = g.row.B.Denot} (number - 1) k k) i.2 ∙ next_row (number - 1) n (omega (arith, i.5, c.loop-number-test.true)) c.requires.1 ∙ ap (λ k. worker_views {B = g.row.B.Denot} k 0 n) turn,
+      e.1 ∙ ap (λ k. worker_views {B = g.row.B.Denot} k (number - 1) k k) i.2 ∙ next_row n (number - 1) n (omega (arith, i.5, c.loop-number-test.true)) c.requires.1 ∙ ap (λ k. worker_views {B = g.row.B.Denot} n k 0 n) turn,
       sym (length-map ws' (λ (w : Worker g.row.B.Denot Global (SeatView g.row.B.Denot) PoolRule). worker_deque w)) ∙ ap length e.0 ∙ length-map ws (λ (w : Worker g.row.B.Denot Global (SeatView g.row.B.Denot) PoolRule). worker_deque w) ∙ i.2,
       e.2,
       numbered_more (λ k (r : Vec (Pass g.row.B.Denot (SeatView g.row.B.Denot) Global) Global). IsRow ds k r.items) 1 number c.loop-number.rows.items c.push_reserved.new.self.items c.in_ok-dealt_row.field-0 c.push_reserved.ensures.items i.4
-          (omega (arith, i.5, c.loop-number.rows.ok.0)) record { own = p.0 ∙ sym i.0; views = p.1 ∙ ap (pass_views {B = g.row.B.Denot} number) (sym len); quiet = p.2 },
+          (omega (arith, i.5, c.loop-number.rows.ok.0)) record { own = p.0 ∙ sym i.0; views = p.1 ∙ ap (λ k. pass_views {B = g.row.B.Denot} k number k) (sym len); quiet = p.2 },
       omega (arith, c.push_reserved.ensures.len, i.5),
       omega (arith, c.push_reserved.ensures.capacity, i.6),
     )
@@ -42,8 +42,9 @@ seated-list-requires-clause-workers g c =
     let last : c.loop-number.number - 1 ≡ length ws = omega (arith, i.2, i.5, c.loop-number-test.false, c.loop-number.auto.number-end, c.loop-number.auto.number) in
     λ k d lt. (
       i.3 k d lt,
-      view_at (λ (w : Worker g.row.B.Denot Global (SeatView g.row.B.Denot) PoolRule). worker_view w) ws (c.loop-number.number - 1) 0 c.args.seats k d i.1 i.2 (omega (arith, lt, i.2))
-          ∙ ap (λ x. view_of {B = g.row.B.Denot} x [] []) (keeps_last (c.loop-number.number - 1) (length ws) k last lt (omega (arith, i.2, c.requires.1))),
+      view_at (λ (w : Worker g.row.B.Denot Global (SeatView g.row.B.Denot) PoolRule). worker_view w) ws c.args.seats (c.loop-number.number - 1) 0 c.args.seats k d i.1 i.2 (omega (arith, lt, i.2))
+          ∙ ap (λ x. view_of {B = g.row.B.Denot} c.args.seats x [] []) (keeps_last (c.loop-number.number - 1) (length ws) k last lt (omega (arith, i.2, c.requires.1)))
+          ∙ ap (λ m. view_of {B = g.row.B.Denot} m (65 - length ws) [] []) (sym i.2),
     )
 
 pub seated-list-requires-clause-rows : goal.seated-list-requires-clause-rows

@@ -9,7 +9,7 @@ use Rattle.branch_pool.proofs.pool.opening.seated.Given as goal
 abbrev pub invariant-loop-own : goal.invariant-loop-own
 invariant-loop-own g l =
     Numbered (λ k w. slice_index_or (map (λ w. worker_deque w) l.fn.workers.items) (k - 1) (worker_deque w) ≡ worker_deque w) 1 l.workers.items
-    × All (λ w. IsOwner w × (worker_view w ≡ view_of (65 - length l.fn.workers.items) [] [])) l.workers.items
+    × All (λ w. IsOwner w × (worker_view w ≡ view_of (length l.fn.workers.items) (65 - length l.fn.workers.items) [] [])) l.workers.items
     × Numbered (λ k r. IsRow (map (λ w. worker_deque w) l.fn.workers.items) k r.items) 1 l.rows.items
     × (vec_len l.rows ≡ vec_len l.workers)
     × (reverse l.list.items ≡ map (λ k. fresh_seat (map (λ w. worker_deque w) l.fn.workers.items) k) (range_with_len (1 + vec_len l.workers) (length l.fn.workers.items - vec_len l.workers)))
