@@ -5,3 +5,7 @@ pub mod WindowEntries
 pub mod GridPoints
 pub mod MadePoints
 pub mod FreePoints
+pub mod ScatteredPoints
+pub mod ValidLifts
+pub mod CyclicSupports
+pub mod ValidScatters

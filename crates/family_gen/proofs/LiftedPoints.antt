@@ -1,6 +1,9 @@
 -- Lifted points from a later number on.
-use Rattle.std.proofs.Common.{◌≡◌, ℕ, zero, suc, ◌+◌, List, [], ◌∷◌, length, ℤ, pos, refl, ap, ap₂, sym, ◌∙◌, ◌++◌, append_assoc, append-nil, arith}
+use Rattle.std.proofs.Common.{◌≡◌, ℕ, zero, suc, ◌+◌, ◌*◌, ◌/◌, ◌%◌, ◌^◌, ◌<◌, ◌≤◌, List, [], ◌∷◌, length, ℤ, pos, refl, ap, ap₂, sym, ◌∙◌, ◌++◌, append_assoc, append-nil, arith}
+use Rattle.std.proofs.lemmas.Nat.{mod_below}
+use Rattle.std.proofs.Math.Nat.{div-lt_iff_lt-mul}
 use Rattle.cayley.specs.Files.{FilePoint}
+use Rattle.cayley.specs.Valid.{IsHeight}
 use Rattle.family_gen.specs.Generator.{following, number, height_of}
 use Rattle.family_gen.specs.Lifts.{lifted_point, lifted, lifted_supports}
 use Rattle.family_gen.proofs.DrawnNumbers.{number-add, number_first}
@@ -55,3 +58,15 @@ one_support made next p last new s all rest whole e q g f h =
 pub no_support : (made : List (List FilePoint)) (last : ℕ) (all : List (List (List ℤ))) (whole : List (List FilePoint)) → all ≡ [] → made ++ lifted_supports last 0 all ≡ whole → made ≡ whole
 unfolding lifted_supports
 no_support made last all whole e h = sym (append-nil made) ∙ ap (λ (l : List (List (List ℤ))). made ++ lifted_supports last 0 l) (sym e) ∙ h
+
+number_fits : (seed n : ℕ) → 1 ≤ n → number seed n < 2 ^ 64
+unfolding number following
+number_fits seed zero h = absurd (omega arith)
+number_fits seed (suc n) h = mod_below (6364136223846793005 * number seed n + 1442695040888963407) (2 ^ 64) (omega arith)
+
+pub height_fits : (seed n : ℕ) → 1 ≤ n → IsHeight (pos (height_of (number seed n)))
+unfolding height_of
+height_fits seed n h = by (number seed n) (number_fits seed n h)
+  where
+    by : (x : ℕ) → x < 2 ^ 64 → x / 2 ^ 40 ≤ 1000000000
+    by x l = let d = (div-lt_iff_lt-mul {k = 2 ^ 40} {x = x} {y = 2 ^ 24} (omega arith)).1 l in omega arith

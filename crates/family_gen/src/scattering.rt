@@ -180,6 +180,17 @@ impl Scattered {
         self.move_to_free(&mut coords, side);
         self.add(alloc, coords, height)
     }
+
+    // The points in their order.
+    fn into_points(self) -> Vec<FilePoint>
+        ensures { map file_point result.items ≡ self }
+    {
+        let Scattered {
+            points,
+            taken: _taken,
+        } = self;
+        points
+    }
 }
 
 // A support of `m` points.
@@ -200,11 +211,7 @@ fn support(
     for _turn in 0..m {
         made.draw(alloc, n, side, generator)?;
     }
-    let Scattered {
-        points,
-        taken: _taken,
-    } = made;
-    Ok(points)
+    Ok(made.into_points())
 }
 
 /// `n` supports of `m` points whose coordinates lie between 0 and `side`, with heights from the generator
