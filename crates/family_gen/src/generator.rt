@@ -18,8 +18,10 @@ impl Generator {
         ensures drawn { result ≡ following self.old.last }
         ensures last { self.new.last ≡ following self.old.last }
     {
-        self.last = self.last.wrapping_mul(MULTIPLIER).wrapping_add(INCREMENT);
-        self.last
+        let before = self.last;
+        let drawn = before.wrapping_mul(MULTIPLIER).wrapping_add(INCREMENT);
+        self.last = drawn;
+        drawn
     }
 
     // A height from 0 to 16,777,215: the upper 24 bits of the next number.

@@ -9,3 +9,6 @@ mod scattering;
 pub use cycles::cyclic;
 pub use lifting::lift;
 pub use scattering::scatter;
+
+#[cfg(test)]
+mod tests;
