@@ -1,12 +1,12 @@
 -- Coordinates that are drawn one after the other.
-use Rattle.std.proofs.Common.{◌≡◌, ℕ, zero, suc, ◌+◌, ◌%◌, ◌/◌, ◌^◌, ◌<◌, ◌≤◌, List, [], ◌∷◌, ◌++◌, length, map, refl, ap, ap₂, sym, ◌∙◌, arith, pos, ℤ}
+use Rattle.std.proofs.Common.{◌≡◌, ℕ, zero, suc, ◌+◌, ◌%◌, ◌/◌, ◌^◌, ◌≤◌, List, [], ◌∷◌, ◌++◌, length, map, refl, ap, ap₂, sym, ◌∙◌, arith}
 use Rattle.std.specs.List.{range_with_len}
 use Rattle.std.proofs.lemmas.List.FromFn.{map-range_with_len_more, length-map-range_with_len}
 use Rattle.std.proofs.lemmas.Nat.{mod_below}
 use Rattle.int_vectors.specs.Vectors.{Each}
 use Rattle.family_gen.specs.Generator.{following, number, coordinate_of}
 use Rattle.family_gen.specs.Scatter.{drawn}
-use Rattle.family_gen.proofs.DrawnNumbers.{number-add, number_first}
+use Rattle.family_gen.proofs.DrawnNumbers.{number-add}
 
 pub drawn_more : (seed side place : ℕ) → drawn seed side 1 place ++ coordinate_of side (following (number seed place)) ∷ [] ≡ drawn seed side 1 (place + 1)
 unfolding number

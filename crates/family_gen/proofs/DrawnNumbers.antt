@@ -1,5 +1,5 @@
 -- The generator's numbers from a later one on.
-use Rattle.std.proofs.Common.{◌≡◌, ℕ, zero, suc, ◌+◌, ◌*◌, ◌%◌, ◌^◌, refl, ap, sym, ◌∙◌, add-zero, add-suc, mul_comm}
+use Rattle.std.proofs.Common.{◌≡◌, ℕ, zero, suc, ◌+◌, ◌*◌, ◌%◌, ◌^◌, refl, ap, ◌∙◌, add-zero, add-suc, mul_comm}
 use Rattle.std.proofs.Math.Nat.{add-mod-mod, add_comm}
 use Rattle.family_gen.specs.Generator.{following, number}
 

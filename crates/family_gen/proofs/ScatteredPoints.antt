@@ -1,5 +1,5 @@
 -- Scattered points from a later number on, one point more, and what all of them keep.
-use Rattle.std.proofs.Common.{◌≡◌, ℕ, zero, suc, ◌+◌, ◌*◌, ◌^◌, ◌<◌, ◌≤◌, List, [], ◌∷◌, ◌++◌, length, map, ℤ, pos, refl, ap, ap₂, sym, subst, ◌∙◌, append_assoc, append-nil, arith, false}
+use Rattle.std.proofs.Common.{◌≡◌, ℕ, zero, suc, ◌+◌, ◌*◌, ◌^◌, ◌≤◌, List, [], ◌∷◌, ◌++◌, length, map, ℤ, pos, refl, ap, ap₂, sym, ◌∙◌, append_assoc, append-nil, arith, false}
 use Rattle.std.proofs.lemmas.List.{map-append, length_push}
 use Rattle.std.proofs.Math.Nat.{suc-mul}
 use Rattle.cayley.specs.Files.{FilePoint}
@@ -8,7 +8,7 @@ use Rattle.family_gen.specs.Generator.{following, number, height_of}
 use Rattle.family_gen.specs.Lifts.{lifted_point}
 use Rattle.family_gen.specs.Scatter.{drawn, next_free, scattered, is_among}
 use Rattle.family_gen.specs.Seen.{coordinates_of}
-use Rattle.family_gen.proofs.DrawnNumbers.{number-add, number_first}
+use Rattle.family_gen.proofs.DrawnNumbers.{number-add}
 use Rattle.family_gen.proofs.DrawnCoordinates.{drawn_later, drawn_within, drawn_length}
 use Rattle.family_gen.proofs.FreePoints.{IsOfGrid, next_is_free}
 use Rattle.family_gen.proofs.MadePoints.{read_again}

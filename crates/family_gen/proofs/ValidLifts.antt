@@ -1,12 +1,12 @@
 -- The file of lifted supports is valid.
-use Rattle.std.proofs.Common.{◌≡◌, ◌≢◌, ℕ, zero, suc, ◌+◌, ◌<◌, ◌≤◌, List, [], ◌∷◌, length, map, ℤ, refl, ap, ap₂, sym, subst, ◌∙◌, arith}
+use Rattle.std.proofs.Common.{◌≡◌, ℕ, suc, ◌+◌, ◌≤◌, List, [], ◌∷◌, length, map, ℤ, refl, ap, sym, subst, ◌∙◌, arith}
 use Rattle.std.specs.Global.{Vec}
 use Rattle.int_vectors.specs.Vectors.{Each}
 use Rattle.cayley.specs.declared.points.FilePoint.{FilePoint as StoredFilePoint}
 use Rattle.cayley.specs.Stored.{file_point}
-use Rattle.cayley.specs.Files.{FilePoint, File}
+use Rattle.cayley.specs.Files.{FilePoint}
 use Rattle.cayley.proofs.Lists.Each.{map_map}
-use Rattle.cayley.specs.Valid.{AreDistinct, IsCoordinate, IsHeight, IsWithinFile, IsValidFile}
+use Rattle.cayley.specs.Valid.{AreDistinct, IsCoordinate, IsWithinFile, IsValidFile}
 use Rattle.family_gen.specs.Lifts.{lifted, lifted_supports, lift_file}
 use Rattle.family_gen.proofs.LiftedPoints.{height_fits}
 

@@ -1,8 +1,6 @@
 -- The file of scattered points is valid.
-use Rattle.std.proofs.Common.{◌≡◌, ◌≢◌, ℕ, zero, suc, ◌+◌, ◌*◌, ◌^◌, ◌<◌, ◌≤◌, ◌||◌, Bool, true, false, List, [], ◌∷◌, ◌++◌, length, map, ℤ, pos, refl, ap, ap₂, sym, subst, ◌∙◌, arith}
+use Rattle.std.proofs.Common.{◌≡◌, ◌≢◌, ℕ, zero, suc, ◌+◌, ◌*◌, ◌^◌, ◌<◌, ◌≤◌, ◌||◌, Bool, true, false, List, [], ◌∷◌, ◌++◌, length, map, ℤ, pos, refl, ap, sym, subst, ◌∙◌, arith}
 use Rattle.std.specs.Prelude.{slice_index_or, ◌==◌, unsigned_abs}
-use Rattle.std.specs.List.{range_with_len}
-use Rattle.std.specs.Bool.{Decides}
 use Rattle.std.specs.Cmp.Lexicographic.{pointwise}
 use Rattle.std.proofs.lemmas.List.{length-map}
 use Rattle.std.proofs.lemmas.List.FromFn.{length-map-range_with_len}
@@ -10,10 +8,9 @@ use Rattle.std.proofs.lemmas.Slice.Eq.{slice_eq-Decides}
 use Rattle.std.proofs.lemmas.Bool.Decides.{Decides-eqb}
 use Rattle.int_vectors.specs.Vectors.{Each}
 use Rattle.cayley.specs.Files.{FilePoint}
-use Rattle.cayley.specs.Valid.{AreDistinct, IsCoordinate, IsHeight, IsWithinFile, IsValidFile}
+use Rattle.cayley.specs.Valid.{AreDistinct, IsCoordinate, IsWithinFile, IsValidFile}
 use Rattle.family_gen.specs.Scatter.{scattered, scattered_support, scatter_file, is_among}
 use Rattle.family_gen.proofs.CyclicSupports.{each_range}
-use Rattle.family_gen.proofs.FreePoints.{IsOfGrid}
 use Rattle.family_gen.proofs.GridPoints.{Within}
 use Rattle.family_gen.proofs.MadePoints.{read_again}
 use Rattle.family_gen.proofs.ScatteredPoints.{Fresh, scattered_fresh}

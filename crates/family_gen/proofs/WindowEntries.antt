@@ -1,12 +1,11 @@
 -- Entries of windows are 0 or 1, and fit.
-use Rattle.std.proofs.Common.{◌≡◌, ℕ, ◌+◌, ◌-◌, ◌%◌, ◌<◌, Bool, true, false, List, [], ◌∷◌, ◌++◌, map, ℤ, pos, refl, ap, sym, ◌∙◌, subst, arith, FitsSigned}
+use Rattle.std.proofs.Common.{ℕ, ◌+◌, ◌-◌, ◌%◌, Bool, true, false, List, [], ◌∷◌, map, pos, arith, FitsSigned}
 use Rattle.std.specs.Prelude.{nat_lt, if◌then◌else◌}
 use Rattle.std.specs.Int.{w128}
 use Rattle.std.specs.List.{range_with_len}
-use Rattle.std.proofs.lemmas.Grind.{common_steps}
 use Rattle.wide_int.specs.Whole.{FitsWhole}
 use Rattle.int_vectors.specs.Fits.{AllFit}
-use Rattle.family_gen.specs.Cyclic.{entry_of, window}
+use Rattle.family_gen.specs.Cyclic.{entry_of}
 
 small : (b : Bool) → FitsWhole (if b then pos 1 else pos 0)
 small true = omega arith

@@ -4,7 +4,7 @@ use Rattle.std.specs.List.{range_with_len, list_any, list_all}
 use Rattle.std.specs.Cmp.Lexicographic.{pointwise}
 use Rattle.cayley.specs.Problems.{version1}
 use Rattle.cayley.specs.Files.{FilePoint, File}
-use Rattle.family_gen.specs.Generator.{number, height_of, coordinate_of}
+use Rattle.family_gen.specs.Generator.{number, coordinate_of}
 use Rattle.family_gen.specs.Lifts.{lifted_point}
 
 -- whether each number is the greatest

@@ -6,3 +6,8 @@ pub mod Values
 pub mod Limits
 pub mod Bounds
 pub mod SystemText
+pub mod Systems
+pub mod Worths
+pub mod Stored
+pub mod OpenTrees
+pub mod OpenTexts

@@ -1,4 +1,8 @@
 // A polynomial's symbols, read from left to right.
+ghost use Rattle.std.specs.Prelude.{◌≡◌, ◌≢◌, ◌≤◌, IfOk, MatchOption};
+ghost use Rattle.poly_text.specs.Grammar.{Polynomial, written};
+ghost use Rattle.poly_text.specs.Worths.{IsWorth};
+
 use crate::symbols::Symbol;
 use crate::terms::Terms;
 use crate::worth::Worth;
@@ -270,7 +274,10 @@ impl Reader {
 }
 
 // What the polynomial of these symbols is worth in `n` variables; none where they are no polynomial.
-pub fn evaluate(alloc: Global, n: usize, symbols: &[Symbol]) -> Result<Option<Worth>, OutOfMemory> {
+pub fn evaluate(alloc: Global, n: usize, symbols: &[Symbol]) -> Result<Option<Worth>, OutOfMemory>
+    requires { n ≤ 16 }
+    ensures { IfOk result (λ answer. MatchOption answer ((p : Polynomial) → written p ≢ symbols.now) (λ w. (p : Polynomial) × (written p ≡ symbols.now) × IsWorth n p w)) }
+{
     let mut reader = Reader {
         outer: Vec::new(alloc),
         inner: Frame::new(),

@@ -1,4 +1,10 @@
 // Systems, read from their bytes.
+ghost use Rattle.std.specs.Prelude.{◌≡◌, ◌≤◌, ◌∷◌, [], ℕ, IfErr, MatchOption, MatchResult};
+ghost use Rattle.support_text.specs.Words.{words};
+ghost use Rattle.poly_text.specs.SystemText.{IsPolynomialLine, IsSystemLine};
+ghost use Rattle.poly_text.specs.Systems.{IsLineRefusal, IsRefusal, IsSystemOf};
+ghost use Rattle.poly_text.specs.Bounds.{IsSmall};
+
 use crate::evaluation::evaluate;
 use crate::faults::{Kind, fault_at};
 use crate::symbols::line_symbols;
@@ -13,7 +19,10 @@ use support_text::{Kind as FileKind, TextFault, nothing_more, number, word};
 const VARIABLES: i128 = 16;
 
 // The dimension of `system N`; none where the line isn't that.
-fn dimension(line: &mut Line) -> Option<usize> {
+fn dimension(line: &mut Line) -> Option<usize>
+    ensures line { MatchOption result ((n : ℕ) → ¬ (IsSystemLine (words line.old) n)) (IsSystemLine (words line.old)) }
+    ensures number { line.new.number ≡ line.old.number }
+{
     if word(line, b"system", FileKind::Header).is_err() {
         return None;
     }
@@ -27,7 +36,10 @@ fn dimension(line: &mut Line) -> Option<usize> {
 }
 
 // The terms of a line's polynomial, none of which is lacking.
-fn polynomial(alloc: Global, n: usize, line: &mut Line) -> Result<Terms, TextFault> {
+fn polynomial(alloc: Global, n: usize, line: &mut Line) -> Result<Terms, TextFault>
+    requires { n ≤ 16 }
+    ensures { MatchResult result (λ v. IsPolynomialLine n (words line.old) v × IsSmall v) (IsLineRefusal n line.old) }
+{
     let number = line.number();
     let symbols = match line_symbols(alloc, line) {
         Ok(Some(symbols)) => symbols,
@@ -61,7 +73,9 @@ fn support(alloc: Global, n: usize, lines: &mut Lines) -> Result<Vec<IntVec>, Te
 
 /// Reads `system N` and N polynomials in the variables x1 to xN, one on a line: the exponents of each polynomial's terms, and else
 /// the first faulty line and the number of its kind, or want of memory.
-pub fn read_system(alloc: Global, bytes: &[u8]) -> Result<System, TextFault> {
+pub fn read_system(alloc: Global, bytes: &[u8]) -> Result<System, TextFault>
+    ensures { MatchResult result (IsSystemOf bytes.now) (IsRefusal bytes.now) }
+{
     let mut lines = Lines::new(bytes);
     let Some(mut line) = lines.next_line() else {
         return Err(fault_at(lines.end_line(), Kind::Missing));

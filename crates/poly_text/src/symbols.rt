@@ -1,5 +1,9 @@
 // The symbols of a polynomial's line.
-ghost use Rattle.std.specs.Prelude.{◌≡◌, ◌++◌, ◌≤◌, ◌+◌, ◌*◌, ◌-◌, ◌^◌, List, ℕ, length, min, IfOk, MatchBool};
+ghost use Rattle.std.specs.Prelude.{◌≡◌, ◌++◌, ◌≤◌, ◌<◌, ℕ, List, length, take, drop, IfOk, MatchBool, MatchOption};
+ghost use Rattle.support_text.specs.Words.{words};
+ghost use Rattle.poly_text.specs.Symbols.{counted, begins_digit, Ends, IsSpelled, Spells, SpellsEach};
+ghost use Rattle.line_text.specs.Numbers.{are_digits};
+ghost use Rattle.poly_text.specs.declared.symbols.Symbol.{Symbol as AnySymbol};
 
 use line_text::Line;
 use std::alloc::Global;
@@ -58,6 +62,8 @@ fn sign(byte: u8) -> Option<Symbol> {
 // The symbol that the bytes begin with, and how many of them it takes; none where they begin with no symbol.
 fn first_symbol(bytes: &[u8]) -> Option<(Symbol, usize)>
     requires { 1 ≤ length bytes.now }
+    ensures { MatchOption result ((ss : List AnySymbol) → ¬ (Spells ss bytes.now))
+        (λ s. (1 ≤ s.1) × (s.1 ≤ length bytes.now) × IsSpelled s.0 (take s.1 bytes.now) × Ends s.0 (drop s.1 bytes.now)) }
 {
     let (value, count) = leading_digits(bytes);
     if 0 < count {
@@ -75,7 +81,10 @@ fn first_symbol(bytes: &[u8]) -> Option<(Symbol, usize)>
 }
 
 // Adds the symbols of a word. Answers false where it isn't made of symbols.
-fn push_symbols(word: &[u8], symbols: &mut Vec<Symbol>) -> Result<bool, OutOfMemory> {
+fn push_symbols(word: &[u8], symbols: &mut Vec<Symbol>) -> Result<bool, OutOfMemory>
+    ensures { IfOk result (λ all. MatchBool all ((ss : List AnySymbol) × (symbols.new.items ≡ symbols.old.items ++ ss) × Spells ss word.now)
+        ((ss : List AnySymbol) → ¬ (Spells ss word.now))) }
+{
     let mut rest = word;
     while !rest.is_empty() {
         let Some((symbol, count)) = first_symbol(rest) else {
@@ -90,7 +99,10 @@ fn push_symbols(word: &[u8], symbols: &mut Vec<Symbol>) -> Result<bool, OutOfMem
 }
 
 // The symbols of the line; none where some of its bytes are no symbol.
-pub fn line_symbols(alloc: Global, line: &mut Line) -> Result<Option<Vec<Symbol>>, OutOfMemory> {
+pub fn line_symbols(alloc: Global, line: &mut Line) -> Result<Option<Vec<Symbol>>, OutOfMemory>
+    ensures symbols { IfOk result (λ answer. MatchOption answer ((ss : List AnySymbol) → ¬ (SpellsEach ss (words line.old))) (λ ss. SpellsEach ss.items (words line.old))) }
+    ensures number { line.new.number ≡ line.old.number }
+{
     let mut symbols = Vec::new(alloc);
     while let Some(token) = line.next_token() {
         if !push_symbols(token.text, &mut symbols)? {

@@ -1,4 +1,9 @@
 // What a part of a polynomial is worth: its terms, or the first reason that it has none.
+ghost use Rattle.std.specs.Prelude.{ℕ, ◌≤◌, IfOk};
+ghost use Rattle.poly_text.specs.Grammar as tree;
+ghost use Rattle.poly_text.specs.Grammar.{Polynomial, Product, Factor, Atom};
+ghost use Rattle.poly_text.specs.Worths.{IsSumWorth, IsProductWorth, IsFactorWorth, IsAtomWorth};
+
 use crate::terms::{Refusal, Terms};
 use std::alloc::Global;
 use wide_int::OutOfMemory;
@@ -29,7 +34,10 @@ fn worth_of(terms: Result<Terms, Refusal>) -> Result<Worth, OutOfMemory> {
 
 impl Worth {
     // Digits as an atom.
-    pub fn number(alloc: Global, n: usize, digits: u128) -> Result<Worth, OutOfMemory> {
+    pub fn number(alloc: Global, n: usize, digits: u128) -> Result<Worth, OutOfMemory>
+        requires { n ≤ 16 }
+        ensures { IfOk result (λ w. IsAtomWorth n (tree.digits digits) w) }
+    {
         if NUMBER < digits {
             return Ok(Worth::Limit);
         }
@@ -43,7 +51,10 @@ impl Worth {
         place: u128,
         negative: bool,
         exponent: u128,
-    ) -> Result<Worth, OutOfMemory> {
+    ) -> Result<Worth, OutOfMemory>
+        requires { n ≤ 16 }
+        ensures { IfOk result (λ w. IsFactorWorth n (tree.power (tree.variable place) negative exponent) w) }
+    {
         if place < 1 || (n as u128) < place || VARIABLE_POWER < exponent {
             return Ok(Worth::Limit);
         }
@@ -56,7 +67,9 @@ impl Worth {
     }
 
     // The sum or the difference.
-    pub fn plus(self, minus: bool, other: Worth) -> Result<Worth, OutOfMemory> {
+    pub fn plus(self, minus: bool, other: Worth) -> Result<Worth, OutOfMemory>
+        ensures { IfOk result (λ w. (n : ℕ) (p : Polynomial) (t : Product) → IsSumWorth n p self → IsProductWorth n t other → IsSumWorth n (tree.next p minus t) w) }
+    {
         match (self, other) {
             (Worth::Terms(a), Worth::Terms(b)) => worth_of(a.plus(minus, b)),
             (Worth::Limit, _) => Ok(Worth::Limit),
@@ -66,7 +79,9 @@ impl Worth {
     }
 
     // The product.
-    pub fn times(self, alloc: Global, other: Worth) -> Result<Worth, OutOfMemory> {
+    pub fn times(self, alloc: Global, other: Worth) -> Result<Worth, OutOfMemory>
+        ensures { IfOk result (λ w. (n : ℕ) (t : Product) (f : Factor) → IsProductWorth n t self → IsFactorWorth n f other → IsProductWorth n (tree.times t f) w) }
+    {
         match (self, other) {
             (Worth::Terms(a), Worth::Terms(b)) => worth_of(a.times(alloc, &b)),
             (Worth::Limit, _) => Ok(Worth::Limit),
@@ -82,7 +97,11 @@ impl Worth {
         n: usize,
         negative: bool,
         exponent: u128,
-    ) -> Result<Worth, OutOfMemory> {
+    ) -> Result<Worth, OutOfMemory>
+        requires { n ≤ 16 }
+        ensures number { IfOk result (λ w. (d : ℕ) → IsAtomWorth n (tree.digits d) self → IsFactorWorth n (tree.power (tree.digits d) negative exponent) w) }
+        ensures group { IfOk result (λ w. (p : Polynomial) → IsAtomWorth n (tree.group p) self → IsFactorWorth n (tree.power (tree.group p) negative exponent) w) }
+    {
         if POWER < exponent || (negative && 0 < exponent) {
             return Ok(Worth::Limit);
         }

@@ -1,4 +1,4 @@
-use Rattle.std.proofs.Common.{◌≡◌, ◌∙◌, ap, sym, subst, ℤ, List, [], ◌∷◌, ◌++◌, arith, FitsSigned}
+use Rattle.std.proofs.Common.{◌∙◌, ap, sym, subst, ℤ, List, [], ◌∷◌, ◌++◌, arith, FitsSigned}
 use Rattle.std.specs.Int.{w128}
 use Rattle.std.proofs.lemmas.Int.{to_z-of_z}
 use Rattle.std.proofs.lemmas.List.FromFn.{map-range_with_len_more}

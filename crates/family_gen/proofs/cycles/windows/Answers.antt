@@ -1,4 +1,4 @@
-use Rattle.std.proofs.Common.{◌≡◌, ◌∙◌, ap, sym, ℤ, List, [], ◌∷◌, ◌++◌, arith}
+use Rattle.std.proofs.Common.{◌∙◌, ap, sym, ℤ, List, [], ◌∷◌, ◌++◌, arith}
 use Rattle.std.proofs.lemmas.List.FromFn.{map-range_with_len_more}
 use Rattle.family_gen.specs.Cyclic.{window}
 use Rattle.family_gen.proofs.cycles.windows.Goals as goal

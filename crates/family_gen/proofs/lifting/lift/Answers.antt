@@ -1,13 +1,10 @@
-use Rattle.std.proofs.Common.{◌≡◌, ◌∙◌, ◌≤◌, ap, sym, subst, ℤ, List, map, length, None}
+use Rattle.std.proofs.Common.{◌∙◌, ap, sym, subst, ℤ, List, map, None}
 use Rattle.std.specs.Global.{Vec}
 use Rattle.std.proofs.lemmas.List.{length-map}
-use Rattle.int_vectors.specs.Vectors.{Each}
-use Rattle.cayley.specs.Valid.{AreDistinct, IsCoordinate, IsValidFile}
+use Rattle.cayley.specs.Valid.{IsValidFile}
 use Rattle.cayley.specs.Files.{File, FilePoint}
 use Rattle.cayley.specs.Problems.{version1}
-use Rattle.cayley.proofs.Lists.Each.{each_map}
-use Rattle.family_gen.specs.Lifts.{lift_file}
-use Rattle.family_gen.proofs.ValidLifts.{IsSupport, lift_valid, supports_from, lifted_seen}
+use Rattle.family_gen.proofs.ValidLifts.{lift_valid, supports_from, lifted_seen}
 use Rattle.family_gen.proofs.lifting.lift.Goals as goal
 
 pub from_parts-requires : goal.from_parts-requires

@@ -1,11 +1,11 @@
-use Rattle.std.proofs.Common.{◌≡◌, ◌∙◌, ap, ap₂, sym, ℤ, List, [], ◌∷◌, ◌++◌, map, length, rules, arith, FitsSigned, to_z-of_z}
+use Rattle.std.proofs.Common.{◌≡◌, ◌∙◌, ap, sym, ℤ, [], ◌∷◌, ◌++◌, map, length, rules, arith, FitsSigned, to_z-of_z}
 use Rattle.std.specs.Int.{w64}
 use Rattle.std.specs.Vec.Iter.{into_iter_items}
 use Rattle.std.proofs.lemmas.List.{map_push, nil_from_length}
 use Rattle.cayley.specs.Files.{FilePoint}
 use Rattle.cayley.specs.Stored.{file_point}
-use Rattle.family_gen.specs.Generator.{following, number}
-use Rattle.family_gen.specs.Lifts.{lifted, lifted_point}
+use Rattle.family_gen.specs.Generator.{number}
+use Rattle.family_gen.specs.Lifts.{lifted}
 use Rattle.family_gen.proofs.LiftedPoints.{one_lifted, none_lifted, one_counted, none_counted}
 use Rattle.family_gen.proofs.lifting.lifted_points.Goals as goal
 

@@ -1,5 +1,4 @@
-use Rattle.std.proofs.Common.{◌≡◌, ◌∙◌, ◌+◌, ℕ, ap, sym, refl, List, [], ◌∷◌, ◌++◌, arith, add-one}
-use Rattle.std.proofs.lemmas.List.FromFn.{map-range_with_len_more}
+use Rattle.std.proofs.Common.{◌∙◌, ℕ, ap, refl, List, [], ◌∷◌, ◌++◌, add-one}
 use Rattle.family_gen.specs.Generator.{following, number, coordinate_of}
 use Rattle.family_gen.specs.Scatter.{drawn}
 use Rattle.family_gen.proofs.DrawnCoordinates.{drawn_more}

@@ -1,4 +1,4 @@
-use Rattle.std.proofs.Common.{◌≡◌, ◌∙◌, ◌+◌, ◌-◌, ◌<◌, ◌≤◌, ℕ, suc, ap, sym, subst, refl, arith, take, drop, length, ◌++◌, List, get_or}
+use Rattle.std.proofs.Common.{◌≡◌, ◌-◌, ◌<◌, ◌≤◌, ℕ, suc, sym, subst, refl, arith, take, drop, length, ◌++◌}
 use Rattle.family_gen.specs.Scatter.{next, are_all}
 use Rattle.family_gen.proofs.GridPoints.{carry_start, carry_end, read_back, write_back, rises_back, within_at}
 use Rattle.family_gen.proofs.scattering.move_on.Goals as goal

@@ -1,4 +1,4 @@
-use Rattle.std.proofs.Common.{◌≡◌, ◌∙◌, ◌+◌, ◌-◌, ◌*◌, ◌<◌, ◌≤◌, ◌^◌, ℕ, suc, ap, ap₂, sym, subst, refl, arith, length, length-append, List, [], ◌∷◌, ◌++◌, map}
+use Rattle.std.proofs.Common.{◌≡◌, ◌∙◌, ◌+◌, ◌-◌, ◌*◌, ℕ, suc, ap, ap₂, arith, length, length-append, List, ◌++◌, map}
 use Rattle.cayley.specs.Files.{FilePoint}
 use Rattle.family_gen.specs.Generator.{number}
 use Rattle.family_gen.specs.Scatter.{scattered}

@@ -1,4 +1,3 @@
-use Rattle.std.proofs.Common.{◌≡◌, ◌∙◌}
 use Rattle.family_gen.proofs.DrawnNumbers.{wrapped_twice}
 use Rattle.family_gen.proofs.generator.Generator.draw.Goals as goal
 

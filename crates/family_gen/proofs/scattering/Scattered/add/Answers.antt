@@ -1,4 +1,4 @@
-use Rattle.std.proofs.Common.{◌++◌, ◌∷◌, [], ◌∙◌, ap, refl, List, map, ℤ, pos, FitsSigned, to_z-of_z, rules}
+use Rattle.std.proofs.Common.{◌++◌, ◌∷◌, [], ◌∙◌, ap, refl, List, map, pos, FitsSigned, to_z-of_z}
 use Rattle.std.specs.Int.{w64}
 use Rattle.cayley.specs.declared.points.FilePoint.{FilePoint as StoredFilePoint}
 use Rattle.cayley.specs.Files.{FilePoint}

@@ -1,4 +1,4 @@
-use Rattle.std.proofs.Common.{◌≡◌, ◌∙◌, ◌+◌, ◌<◌, ◌≤◌, ◌^◌, ℕ, ap, sym, subst, refl, arith, length, List, [], ◌∷◌, ◌++◌, map, pos, OnOk, add-one, FitsSigned, to_z-of_z, rules}
+use Rattle.std.proofs.Common.{◌≡◌, ◌∙◌, ◌+◌, ℕ, ap, sym, subst, length, List, ◌++◌, map, add-one, FitsSigned, to_z-of_z, rules}
 use Rattle.std.specs.Int.{w64}
 use Rattle.std.proofs.lemmas.Result.{on_ok_weaker}
 use Rattle.cayley.specs.Files.{FilePoint}

@@ -1,4 +1,4 @@
-use Rattle.std.proofs.Common.{◌≡◌, ◌∙◌, ◌+◌, ◌-◌, ◌<◌, ◌≤◌, ◌^◌, ℕ, suc, ap, sym, subst, refl, arith, length, List, map, true, false}
+use Rattle.std.proofs.Common.{◌≡◌, ◌∙◌, ◌+◌, ◌-◌, ◌<◌, ◌≤◌, ◌^◌, ℕ, suc, ap, sym, subst, refl, arith, length, map, true, false}
 use Rattle.std.proofs.lemmas.List.{length-map}
 use Rattle.family_gen.specs.Seen.{coordinates_of}
 use Rattle.family_gen.specs.Scatter.{next, is_among}
