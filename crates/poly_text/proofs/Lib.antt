@@ -1,0 +1,2 @@
+pub mod ReadTrees
+pub mod WrittenTrees

@@ -1,0 +1,13 @@
+pub mod Faults
+pub mod Symbols
+pub mod Grammar
+pub mod Terms
+pub mod Values
+pub mod Limits
+pub mod Bounds
+pub mod SystemText
+pub mod Systems
+pub mod Worths
+pub mod Stored
+pub mod OpenTrees
+pub mod OpenTexts
