@@ -1,2 +1,0 @@
-pub mod ReadTrees
-pub mod WrittenTrees
