@@ -1,0 +1,3 @@
+-- the search from the start cell misses nothing
+pub mod Chains
+pub mod Shares

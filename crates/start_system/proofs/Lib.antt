@@ -1,0 +1,7 @@
+pub mod Path
+pub mod Early
+pub mod Late
+pub mod Complete
+pub mod Perturbed
+pub mod Started
+mod Worked

@@ -1,0 +1,2 @@
+-- worked problems meet the premises of the laws
+mod ThreePoints
