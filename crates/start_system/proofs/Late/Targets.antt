@@ -159,9 +159,6 @@ first_ranks gs k =
     let b : suc (place_in gs k) ≡ 1 + place_in gs k = omega arith in
     ap (rank_to gs) a ∙ b
 
-
-
-
 alikes : (n : ℕ) (version : Version) (files : List ℕ) (plain : List (List Point)) → 1 ≤ n → Longs n 0 files plain → Longs n 0 files (ranked_supports version files plain) → Shapes n 0 (ranked_supports version files plain)
     → Alikes (gaps_of (n - 1) files) (ranked_supports version files plain) (ranked_supports version files (first_points files (ranked_supports version files plain)))
 alikes n version1 files plain some l k w = alikes1 n 0 (gaps_of (n - 1) files) files plain k w

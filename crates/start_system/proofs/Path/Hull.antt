@@ -63,4 +63,3 @@ hull_of n f c s m d pd inside lm at_first directions =
   where
     ring : (d t m x : ℤ) → (d -ℤ t) *ℤ m +ℤ (m *ℤ t +ℤ d *ℤ (x -ℤ m)) ≡ d *ℤ x
     ring d t m x = rw (as_D d, as_D t, as_D m, as_D x) (simp Ds (same_D _ _ _ _ (omega arith)))
-
