@@ -1,7 +1,7 @@
 -- The laws of one cell: its normal, its dependencies and the exchange of a point. Places j count from 0, positions from 1.
 use Rattle.std.specs.Prelude.{◌≡◌, ◌≢◌, ◌↔◌, ℕ, List, ℤ, pos}
-use Rattle.int_vectors.specs.Vectors.{IsZero}
-use Rattle.cayley.specs.Times.{Time, IsPositive, IsSameTime}
+use Rattle.int_vectors.specs.Vectors.{IsZero, IsPositive}
+use Rattle.cayley.specs.Times.{Time, IsSameTime}
 use Rattle.cayley.specs.Problems.{Problem, IsProblem, point_at, file_points}
 use Rattle.cayley.specs.Cells.{Cell, IsOf, IsIndependent}
 use Rattle.cayley.specs.Normals.{Normal, IsNormal, HasSameValues, IsAbove, IsLevel, IsBelow, AllAbove}

@@ -1,7 +1,7 @@
 -- Normals of a cell at a time, and points above, level and below.
 use Rattle.std.specs.Prelude.{◌≡◌, ◌⊎◌, ℕ, zero, suc, List, [], ◌∷◌, length, map, ℤ, pos, neg_ℤ, ◌*ℤ◌, ◌<ℤ◌}
-use Rattle.int_vectors.specs.Vectors.{IsZero, add, sub, scale, comb, at, at_place}
-use Rattle.cayley.specs.Times.{Time, IsPositive}
+use Rattle.int_vectors.specs.Vectors.{IsZero, IsPositive, add, sub, scale, comb, at, at_place}
+use Rattle.cayley.specs.Times.{Time}
 use Rattle.cayley.specs.Problems.{Point, Problem, point_at}
 use Rattle.cayley.specs.Cells.{Cell, EachPair, IsFurther}
 

@@ -1,17 +1,12 @@
 -- Times: values over one positive number, compared entry by entry.
-use Rattle.std.specs.Prelude.{◌≡◌, ◌⊎◌, List, [], ◌∷◌, ℤ, pos, neg_ℤ, ◌<ℤ◌}
-use Rattle.int_vectors.specs.Vectors.{IsZero, add, scale}
+use Rattle.std.specs.Prelude.{List, [], ℤ, pos, neg_ℤ, ◌<ℤ◌}
+use Rattle.int_vectors.specs.Vectors.{IsZero, IsPositive, add, scale}
 
 -- whole numbers over one positive number: entry k is entries_k / over, and 0 past the end
 pub record Time : Type 0 where
   pub entries : List ℤ
   pub over : ℤ
   pub positive : pos 0 <ℤ over
-
--- the first entry other than zero is positive
-abbrev pub IsPositive : List ℤ → Type 0
-IsPositive [] = ⊥
-IsPositive (x ∷ xs) = pos 0 <ℤ x ⊎ ((x ≡ pos 0) × IsPositive xs)
 
 -- u less t is positive
 abbrev pub IsBefore : Time → Time → Type 0

@@ -6,8 +6,8 @@ use Rattle.std.proofs.Math.IntN.{ℤ, pos, ◌+ℤ◌, ◌*ℤ◌, neg_ℤ, *ℤ
 use Rattle.wide_int.specs.Fractions.{Fraction}
 use Rattle.wide_int.proofs.Ring.{as_D, Ds, same_D, D-pos}
 use Rattle.wide_int.proofs.Order.{sign_cases, mul_pos_ℤ, mul_le_ℤ}
-use Rattle.int_vectors.specs.Vectors.{Each, add, scale, at}
-use Rattle.cayley.specs.Times.{Time, IsPositive}
+use Rattle.int_vectors.specs.Vectors.{IsPositive, Each, add, scale, at}
+use Rattle.cayley.specs.Times.{Time}
 use Rattle.cayley.proofs.Algebra.ScaledInverse.{at-add, at-scale}
 use Rattle.cayley.proofs.Order.Lexicographic.{positive-same}
 use Rattle.cayley.proofs.Order.Proportion.{in_proportion}

@@ -1,7 +1,7 @@
 -- what is said of the lines that are made
 use Rattle.std.proofs.Common.{◌↔◌, List, ℤ, refl, sym, subst}
-use Rattle.int_vectors.specs.Vectors.{Each}
-use Rattle.cayley.specs.Times.{Time, IsPositive}
+use Rattle.int_vectors.specs.Vectors.{IsPositive, Each}
+use Rattle.cayley.specs.Times.{Time}
 use Rattle.cayley.specs.Problems.{Problem, unperturbed, HasSamePoints}
 use Rattle.cayley.specs.Cells.{Cell, IsIndependent}
 use Rattle.cayley.specs.Mixed.{IsAlive}

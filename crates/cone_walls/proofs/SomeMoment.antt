@@ -5,8 +5,8 @@ use Rattle.std.specs.Prelude.{All, unsigned_abs}
 use Rattle.std.proofs.Math.IntN.{ℤ, pos, ◌+ℤ◌, ◌*ℤ◌, neg_ℤ, *ℤ-zero}
 use Rattle.wide_int.proofs.Ring.{as_D, Ds, same_D}
 use Rattle.wide_int.proofs.Order.{sign_cases, mul_pos_ℤ, mul_le_ℤ}
-use Rattle.int_vectors.specs.Vectors.{Each, IsZero, add, scale}
-use Rattle.cayley.specs.Times.{Time, IsPositive}
+use Rattle.int_vectors.specs.Vectors.{Each, IsZero, IsPositive, add, scale}
+use Rattle.cayley.specs.Times.{Time}
 use Rattle.cayley.proofs.Order.Lexicographic.{positive-unscale, not_zero, not_both, three}
 use Rattle.cayley.proofs.Lists.Each.{all_each}
 use Rattle.crossing.specs.declared.line.WallLine.{WallLine}

@@ -2,8 +2,8 @@
 use Rattle.std.proofs.Common.{◌≡◌, ◌↔◌, inl, inr, ℕ, ◌-◌, List, [], ◌∷◌, map, arith, sym, ap, subst, ◌∙◌, ◌<ℤ◌}
 use Rattle.std.proofs.lemmas.Int.{ints}
 use Rattle.std.proofs.Math.IntN.{ℤ, pos, ◌+ℤ◌, ◌*ℤ◌, neg_ℤ}
-use Rattle.int_vectors.specs.Vectors.{IsZero, scale}
-use Rattle.cayley.specs.Times.{Time, IsPositive}
+use Rattle.int_vectors.specs.Vectors.{IsZero, IsPositive, scale}
+use Rattle.cayley.specs.Times.{Time}
 use Rattle.cayley.specs.Problems.{Point, Problem, point_at, with_rank, unperturbed}
 use Rattle.cayley.specs.Cells.{Cell}
 use Rattle.cayley.specs.Dependencies.{support_at, pair_at, minus}

@@ -1,8 +1,8 @@
 -- A cell's life, by the two ends that its lines have.
 use Rattle.std.specs.Prelude.{◌↔◌, List, [], ◌∷◌, neg_ℤ}
 use Rattle.wide_int.specs.Fractions.{Fraction}
-use Rattle.int_vectors.specs.Vectors.{add, scale}
-use Rattle.cayley.specs.Times.{Time, IsPositive}
+use Rattle.int_vectors.specs.Vectors.{IsPositive, add, scale}
+use Rattle.cayley.specs.Times.{Time}
 use Rattle.cayley.specs.Problems.{Problem}
 use Rattle.cayley.specs.Cells.{Cell}
 use Rattle.cayley.specs.Mixed.{IsAlive}

@@ -1,7 +1,7 @@
 -- What a line tells of its point at a time.
 use Rattle.std.specs.Prelude.{◌≡◌, ◌↔◌, ◌-◌, List, [], ◌∷◌, ℤ, pos, ◌<ℤ◌}
-use Rattle.int_vectors.specs.Vectors.{Each, IsZero, add, scale}
-use Rattle.cayley.specs.Times.{Time, IsPositive}
+use Rattle.int_vectors.specs.Vectors.{Each, IsZero, IsPositive, add, scale}
+use Rattle.cayley.specs.Times.{Time}
 use Rattle.cayley.specs.Problems.{Problem}
 use Rattle.cayley.specs.Cells.{Cell}
 use Rattle.cayley.specs.Dependencies.{support_at, pair_at, minus}

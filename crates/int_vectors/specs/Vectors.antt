@@ -1,5 +1,5 @@
 -- Vectors of whole numbers. A list counts as followed by zeros, so no operation asks for equal lengths.
-use Rattle.std.specs.Prelude.{◌≡◌, ℕ, zero, suc, List, [], ◌∷◌, ℤ, pos, ◌+ℤ◌, ◌*ℤ◌, neg_ℤ, slice_index_or, length}
+use Rattle.std.specs.Prelude.{◌≡◌, ◌⊎◌, ℕ, zero, suc, List, [], ◌∷◌, ℤ, pos, ◌+ℤ◌, ◌*ℤ◌, ◌<ℤ◌, neg_ℤ, slice_index_or, length}
 
 -- P holds of each element
 abbrev pub Each : {A : Type 0} → List A → (A → Type 0) → Type 0
@@ -10,6 +10,11 @@ Each (x ∷ xs) P = P x × Each xs P
 abbrev pub IsZero : List ℤ → Type 0
 IsZero [] = Unit {0}
 IsZero (x ∷ xs) = (x ≡ pos 0) × IsZero xs
+
+-- the first entry other than zero is positive
+abbrev pub IsPositive : List ℤ → Type 0
+IsPositive [] = ⊥
+IsPositive (x ∷ xs) = pos 0 <ℤ x ⊎ ((x ≡ pos 0) × IsPositive xs)
 
 -- each entry times k
 abbrev pub scale : ℤ → List ℤ → List ℤ

@@ -10,7 +10,8 @@ use Rattle.cayley.proofs.Order.Soon.{each_pair-map}
 use Rattle.cayley.proofs.Flipping.Exchange.{others_of, here_of, turn, cycle, by_rising, rising_is, rising_turn}
 use Rattle.cayley.proofs.Flipping.FlipScenes.{InRange, IsLevel, FurtherAbove, Scene, turn_scene, cycle_scene, other_scene, of_scene, normal_scene}
 use Rattle.cayley.proofs.Flipping.FlipSides.{rising_after, rising_before}
-use Rattle.cayley.specs.Times.{IsPositive, Time}
+use Rattle.int_vectors.specs.Vectors.{IsPositive}
+use Rattle.cayley.specs.Times.{Time}
 use Rattle.cayley.specs.Problems.{Point, point_at}
 use Rattle.cayley.specs.Normals.{Normal, gap, IsNormal}
 use Rattle.cayley.specs.Cells.{Cell, EachPair, IsOf, IsIndependent, IsFurther}

@@ -14,8 +14,8 @@ use Rattle.cayley.proofs.Order.Soon.{SoonAbove, soon_above_now, alive_soon, each
 use Rattle.cayley.proofs.Flipping.PairOrder.{above_other}
 use Rattle.cayley.proofs.Flipping.Exchange.{Others, others_of, here_of, all_of, IsOrthogonal, Circuit, turn, cycle, negate, opposite, opposite-at, seen, orthogonal}
 use Rattle.cayley.proofs.Order.Mirror.{LateAbove, late_above_now, alive_lately}
-use Rattle.int_vectors.specs.Vectors.{IsZero, dot}
-use Rattle.cayley.specs.Times.{IsPositive, Time}
+use Rattle.int_vectors.specs.Vectors.{IsZero, IsPositive, dot}
+use Rattle.cayley.specs.Times.{Time}
 use Rattle.cayley.specs.Problems.{Point, point_at, IsProblem}
 use Rattle.cayley.specs.Normals.{Normal, gap, IsNormal, NoneBelow}
 use Rattle.cayley.specs.Cells.{IsOf, IsIndependent, IsFurther}

@@ -13,8 +13,8 @@ use Rattle.cayley.proofs.Flipping.Exchange.{here_of, Circuit, turn, cycle, negat
 use Rattle.cayley.proofs.Order.Times.{middle, turned, turned_both}
 use Rattle.cayley.proofs.Order.Lined.{turned_line, turn-at}
 use Rattle.cayley.proofs.Flipping.FlipScenes.{FurtherAbove, Scene, turn_scene, cycle_scene, other_scene, independent_scene, of_scene, normal_scene, none_below_scene, line_zero_scene, after_scene, before_scene}
-use Rattle.int_vectors.specs.Vectors.{IsZero, at}
-use Rattle.cayley.specs.Times.{IsPositive, Time}
+use Rattle.int_vectors.specs.Vectors.{IsZero, IsPositive, at}
+use Rattle.cayley.specs.Times.{Time}
 use Rattle.cayley.specs.Cells.{Cell, IsOf, IsIndependent, IsFurther}
 use Rattle.cayley.specs.Problems.{point_at}
 use Rattle.cayley.specs.Normals.{gap, IsNormal, NoneBelow}

@@ -12,8 +12,8 @@ use Rattle.cayley.proofs.Flipping.FlipScenes.{InRange, IsLevel, FurtherAbove, Sc
 use Rattle.cayley.proofs.Flipping.FlipSides.{falls_where_before, precedes_scene, begins_rising}
 use Rattle.cayley.proofs.Flipping.FlipNeighbours.{both_pairs, successors_of, predecessors_of}
 use Rattle.cayley.proofs.Life.Decisions.{begins_at_once, alive_before}
-use Rattle.int_vectors.specs.Vectors.{IsZero}
-use Rattle.cayley.specs.Times.{IsPositive, Time}
+use Rattle.int_vectors.specs.Vectors.{IsZero, IsPositive}
+use Rattle.cayley.specs.Times.{Time}
 use Rattle.cayley.specs.Problems.{Point, point_at, IsProblem}
 use Rattle.cayley.specs.Normals.{Normal, gap}
 use Rattle.cayley.specs.Cells.{Cell, EachPair, IsOf, IsIndependent, IsFurther, IsLess}

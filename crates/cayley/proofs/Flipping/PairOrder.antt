@@ -6,8 +6,8 @@ use Rattle.std.proofs.Math.IntN.{pos}
 use Rattle.cayley.proofs.Order.Lexicographic.{positive-same}
 use Rattle.cayley.proofs.Algebra.RowNormals.{at-zero}
 use Rattle.cayley.proofs.Flipping.Neighbours.{gap-potential, dot-sub}
-use Rattle.int_vectors.specs.Vectors.{IsZero, dot, sub}
-use Rattle.cayley.specs.Times.{IsPositive, Time}
+use Rattle.int_vectors.specs.Vectors.{IsZero, IsPositive, dot, sub}
+use Rattle.cayley.specs.Times.{Time}
 use Rattle.cayley.specs.Problems.{Point, Problem, point_at}
 use Rattle.cayley.specs.Normals.{Normal, gap}
 use Rattle.cayley.specs.Cells.{Cell, EachPair, IsIndependent}

@@ -13,8 +13,8 @@ use Rattle.cayley.proofs.Searching.Listing.{Has}
 use Rattle.cayley.proofs.Order.Times.{Same, same_sym, same_trans, time_cases, same_before}
 use Rattle.cayley.proofs.Order.Lined.{Lined, Early, Begins, SignEarly, after_from, rise_of, before_rise, at_rise, own_zero, each_has, early_from, line_same, flat-at}
 use Rattle.cayley.proofs.Life.Decisions.{lined_cell}
-use Rattle.int_vectors.specs.Vectors.{Each, IsZero, scale, at}
-use Rattle.cayley.specs.Times.{IsPositive, Time, IsBefore}
+use Rattle.int_vectors.specs.Vectors.{Each, IsZero, IsPositive, scale, at}
+use Rattle.cayley.specs.Times.{Time, IsBefore}
 use Rattle.cayley.specs.Problems.{Problem, IsProblem}
 use Rattle.cayley.specs.Cells.{Cell}
 use Rattle.cayley.specs.Mixed.{IsAlive}

@@ -12,8 +12,8 @@ use Rattle.cayley.proofs.Algebra.RowDependencies.{zero-at}
 use Rattle.cayley.proofs.Order.Lined.{Lined, Early, Begins, early_from, rise_of, each_has, begins_same, turned_line, turn-at}
 use Rattle.cayley.proofs.Life.Begins.{LastRise, begins_last, signs_early_at}
 use Rattle.cayley.proofs.Life.Ends.{Late, Ends}
-use Rattle.int_vectors.specs.Vectors.{Each, IsZero}
-use Rattle.cayley.specs.Times.{IsPositive, Time}
+use Rattle.int_vectors.specs.Vectors.{Each, IsZero, IsPositive}
+use Rattle.cayley.specs.Times.{Time}
 
 -- ---- the entry
 -- no line rises, and all are positive at some time: at all early times

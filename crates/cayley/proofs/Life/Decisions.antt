@@ -11,8 +11,8 @@ use Rattle.cayley.proofs.OneCell.CellLines.{point_line}
 use Rattle.cayley.proofs.Order.Soon.{each_pair-map}
 use Rattle.cayley.proofs.Order.Times.{Same, middle, sooner}
 use Rattle.cayley.proofs.Order.Lined.{Lined, lined_map, lined_further, lined_pairs, dec_now, dec_after, dec_ahead, dec_early, dec_begins, find_begin, begins_once}
-use Rattle.int_vectors.specs.Vectors.{IsZero, scale, sub, dot}
-use Rattle.cayley.specs.Times.{IsPositive, Time}
+use Rattle.int_vectors.specs.Vectors.{IsZero, IsPositive, scale, sub, dot}
+use Rattle.cayley.specs.Times.{Time}
 use Rattle.cayley.specs.Problems.{Point, Problem, point_at, IsProblem}
 use Rattle.cayley.specs.Normals.{Normal, gap, IsNormal}
 use Rattle.cayley.specs.Cells.{Cell, EachPair, IsOf, IsIndependent, IsFurther}

@@ -11,8 +11,8 @@ use Rattle.cayley.proofs.Order.Times.{Same, same_sym, time_cases, middle, turned
 use Rattle.cayley.proofs.Order.Lined.{Lined, Ahead, mirrored, ahead_from, ahead_to, after_same, now_same, none_before}
 use Rattle.cayley.proofs.Life.Begins.{early_or_begins}
 use Rattle.cayley.proofs.Life.Decisions.{lined_cell}
-use Rattle.cayley.specs.Times.{IsPositive, Time, IsBefore}
-use Rattle.int_vectors.specs.Vectors.{at}
+use Rattle.cayley.specs.Times.{Time, IsBefore}
+use Rattle.int_vectors.specs.Vectors.{IsPositive, at}
 use Rattle.cayley.specs.Problems.{Problem, IsProblem}
 use Rattle.cayley.specs.Cells.{Cell}
 use Rattle.cayley.specs.Mixed.{IsAlive}

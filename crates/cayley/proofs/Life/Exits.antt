@@ -11,8 +11,8 @@ use Rattle.cayley.proofs.Order.Times.{same_sym, same_before, time_cases}
 use Rattle.cayley.proofs.Life.Decisions.{alive_before, alive_after}
 use Rattle.cayley.proofs.Searching.Parents.{precedes_same}
 use Rattle.cayley.proofs.Life.Ends.{ends_at_once, not_after}
-use Rattle.int_vectors.specs.Vectors.{Each, IsZero}
-use Rattle.cayley.specs.Times.{IsPositive, Time}
+use Rattle.int_vectors.specs.Vectors.{Each, IsZero, IsPositive}
+use Rattle.cayley.specs.Times.{Time}
 use Rattle.cayley.specs.Problems.{Point, Problem, point_at, IsProblem}
 use Rattle.cayley.specs.Normals.{Normal, gap, IsNormal}
 use Rattle.cayley.specs.Cells.{Cell, EachPair, IsOf, IsFurther, IsLess, IsListOf}

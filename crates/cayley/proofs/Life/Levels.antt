@@ -12,8 +12,8 @@ use Rattle.cayley.proofs.Order.Times.{middle, turned}
 use Rattle.cayley.proofs.Order.Lined.{Lined, Ahead, mirrored, ahead_to, after_to, turned_line, turn-at, further_cases}
 use Rattle.cayley.proofs.Life.Walls.{SomeFurther}
 use Rattle.cayley.proofs.Life.Decisions.{alive_after, alive_before}
-use Rattle.int_vectors.specs.Vectors.{IsZero}
-use Rattle.cayley.specs.Times.{IsPositive, Time, IsBefore}
+use Rattle.int_vectors.specs.Vectors.{IsZero, IsPositive}
+use Rattle.cayley.specs.Times.{Time, IsBefore}
 use Rattle.cayley.specs.Problems.{Point, Problem, point_at, IsProblem}
 use Rattle.cayley.specs.Normals.{Normal, gap, IsNormal, NoneBelow}
 use Rattle.cayley.specs.Cells.{Cell, EachPair, IsOf, IsIndependent, IsFurther}

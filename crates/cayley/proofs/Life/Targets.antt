@@ -7,8 +7,8 @@ use borrow.Author.Differences.{up, down}
 use native.Mathlib.Decide.{ℕ_discrete, dec_le}
 use Rattle.wide_int.proofs.Ring.{as_D, Ds, same_D, D-pos, neg_mul_ℤ}
 use Rattle.wide_int.proofs.Order.{mul_le_ℤ}
-use Rattle.int_vectors.specs.Vectors.{Each, IsZero, dot, at, add, sub, scale}
-use Rattle.cayley.specs.Times.{Time, time_zero, IsPositive, IsBefore}
+use Rattle.int_vectors.specs.Vectors.{Each, IsZero, IsPositive, dot, at, add, sub, scale}
+use Rattle.cayley.specs.Times.{Time, time_zero, IsBefore}
 use Rattle.cayley.specs.Problems.{Point, Problem, IsProblem, point_at, file_points}
 use Rattle.cayley.specs.Cells.{Cell, EachPair, IsOf, IsIndependent, IsFurther}
 use Rattle.cayley.specs.Normals.{Normal, mark, height, gap, IsNormal, AllAbove}

@@ -6,8 +6,8 @@ use Rattle.cayley.proofs.Order.Lines.{Line, line_at}
 use Rattle.cayley.proofs.Life.Walls.{SomeFurther, TellsAbove}
 use Rattle.cayley.proofs.Life.Decisions.{alive_after, alive_before}
 use Rattle.cayley.proofs.Life.Levels.{begins_level, ends_level, after_none_below, before_none_below}
-use Rattle.int_vectors.specs.Vectors.{IsZero}
-use Rattle.cayley.specs.Times.{IsPositive, Time}
+use Rattle.int_vectors.specs.Vectors.{IsZero, IsPositive}
+use Rattle.cayley.specs.Times.{Time}
 use Rattle.cayley.specs.Problems.{Point, Problem, point_at, IsProblem}
 use Rattle.cayley.specs.Normals.{Normal, gap, IsNormal, NoneBelow}
 use Rattle.cayley.specs.Cells.{Cell, IsOf, IsIndependent, IsFurther}

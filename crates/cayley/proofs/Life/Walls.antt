@@ -9,8 +9,8 @@ use Rattle.cayley.proofs.Order.Times.{Same}
 use Rattle.cayley.proofs.Order.Lined.{Lined, rise_of, each_has}
 use Rattle.cayley.proofs.Life.Begins.{LastRise}
 use Rattle.cayley.proofs.Life.Crossings.{FirstFall, early_rule, begins_rule, ends_rule, late_rule}
-use Rattle.int_vectors.specs.Vectors.{Each}
-use Rattle.cayley.specs.Times.{IsPositive, Time, IsBefore}
+use Rattle.int_vectors.specs.Vectors.{IsPositive, Each}
+use Rattle.cayley.specs.Times.{Time, IsBefore}
 use Rattle.cayley.specs.Problems.{Point, Problem, point_at, IsProblem}
 use Rattle.cayley.specs.Normals.{Normal, gap, IsNormal}
 use Rattle.cayley.specs.Cells.{Cell, EachPair, IsOf, IsIndependent, IsFurther}

@@ -12,8 +12,8 @@ use Rattle.cayley.proofs.Order.Lexicographic.{minus_one}
 use Rattle.cayley.proofs.Algebra.RowNormals.{weigh-swap, weigh-factor, square_pos, sum_is_gap}
 use Rattle.cayley.proofs.Order.Lines.{Line, line_at}
 use Rattle.cayley.proofs.OneCell.CellNormals.{edges, rises, length-rises, normal_from, rows_independent, long_rows}
-use Rattle.int_vectors.specs.Vectors.{weigh, scale, dot, at, add, sub, comb, at_place}
-use Rattle.cayley.specs.Times.{IsPositive, Time}
+use Rattle.int_vectors.specs.Vectors.{IsPositive, weigh, scale, dot, at, add, sub, comb, at_place}
+use Rattle.cayley.specs.Times.{Time}
 use Rattle.cayley.specs.Problems.{Point, Problem, point_at, IsProblem}
 use Rattle.cayley.specs.Normals.{Normal, height, gap, mark, IsNormal}
 use Rattle.cayley.specs.Cells.{Cell, IsOf, IsIndependent}

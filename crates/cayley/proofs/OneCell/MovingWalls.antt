@@ -4,8 +4,8 @@ use Rattle.std.proofs.lemmas.Int.{ints}
 use Rattle.std.proofs.Math.IntN.{ℤ, pos, ◌*ℤ◌, neg_ℤ}
 use Rattle.wide_int.proofs.Ring.{as_D, Ds, same_D}
 use Rattle.wide_int.proofs.Order.{mul_cancel}
-use Rattle.int_vectors.specs.Vectors.{Each, IsZero, scale, at}
-use Rattle.cayley.specs.Times.{Time, IsPositive}
+use Rattle.int_vectors.specs.Vectors.{Each, IsZero, IsPositive, scale, at}
+use Rattle.cayley.specs.Times.{Time}
 use Rattle.cayley.specs.Problems.{Point, Problem, IsProblem, point_at}
 use Rattle.cayley.specs.Cells.{Cell, EachPair, IsOf, IsIndependent}
 use Rattle.cayley.specs.Normals.{Normal, gap, IsNormal}

@@ -3,8 +3,8 @@ use Rattle.std.proofs.Common.{◌≡◌, ◌⊎◌, ℕ, zero, suc, ◌+◌, Lis
 use Rattle.std.proofs.lemmas.Int.{ints}
 use Rattle.std.proofs.Math.IntN.{ℤ, pos, ◌+ℤ◌, ◌-ℤ◌, ◌*ℤ◌, *ℤ-zero}
 use Rattle.wide_int.proofs.Ring.{as_D, Ds, same_D}
-use Rattle.int_vectors.specs.Vectors.{IsZero, add, dot, at, at_place}
-use Rattle.cayley.specs.Times.{Time, time_zero, IsPositive}
+use Rattle.int_vectors.specs.Vectors.{IsZero, IsPositive, add, dot, at, at_place}
+use Rattle.cayley.specs.Times.{Time, time_zero}
 use Rattle.cayley.specs.Problems.{Point}
 use Rattle.cayley.specs.Normals.{Normal, mark, gap}
 use Rattle.cayley.proofs.Algebra.RowDependencies.{zero-at}

@@ -2,8 +2,8 @@
 use Rattle.std.proofs.Common.{◌≡◌, ◌↔◌, ◌⊎◌, inl, inr, ℕ, List, [], ◌∷◌, ◌++◌, length, map, arith, refl, sym, ap, ap₂, subst, ◌∙◌, ◌<ℤ◌}
 use Rattle.std.proofs.lemmas.Int.{ints}
 use Rattle.std.proofs.Math.IntN.{ℤ, pos, ◌+ℤ◌, ◌-ℤ◌, ◌*ℤ◌, neg_ℤ, *ℤ_comm}
-use Rattle.int_vectors.specs.Vectors.{IsZero, add, sub, scale, dot, comb, IsOrthogonal}
-use Rattle.cayley.specs.Times.{time_zero, IsPositive}
+use Rattle.int_vectors.specs.Vectors.{IsZero, IsPositive, add, sub, scale, dot, comb, IsOrthogonal}
+use Rattle.cayley.specs.Times.{time_zero}
 use Rattle.cayley.specs.Problems.{Point, point_at}
 use Rattle.cayley.specs.Cells.{Cell, EachPair}
 use Rattle.cayley.specs.Rows.{edge_rows_from}

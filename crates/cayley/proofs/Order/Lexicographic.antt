@@ -4,8 +4,7 @@ use Rattle.std.proofs.lemmas.Int.{ints}
 use Rattle.std.proofs.Math.IntN.{ℤ, pos, ◌*ℤ◌, neg_ℤ, *ℤ-zero}
 use Rattle.wide_int.proofs.Ring.{as_D, Ds, same_D}
 use Rattle.wide_int.proofs.Order.{sign_cases, mul_pos_ℤ}
-use Rattle.int_vectors.specs.Vectors.{IsZero, scale, add, at}
-use Rattle.cayley.specs.Times.{IsPositive}
+use Rattle.int_vectors.specs.Vectors.{IsZero, IsPositive, scale, add, at}
 
 pub minus_one : (x : ℤ) → neg_ℤ (pos 1) *ℤ x ≡ neg_ℤ x
 minus_one x = omega (arith, ints)

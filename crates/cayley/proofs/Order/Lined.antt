@@ -12,8 +12,8 @@ use Rattle.cayley.proofs.Order.Lexicographic.{positive-same, positive-scale, pos
 use Rattle.cayley.proofs.Order.Lines.{Line, line_at, Before, AllPositive, SignAfter, just_after_from, just_after_to, before_trans, zero_of, before_zero, later, earlier}
 use Rattle.cayley.proofs.Searching.Listing.{Has}
 use Rattle.cayley.proofs.Order.Times.{Same, same_sym, later-self, time_cases, middle, less, turned, turned_one, turned_both, turned_back, sooner, same_before, before_same}
-use Rattle.int_vectors.specs.Vectors.{Each, IsZero, scale, at}
-use Rattle.cayley.specs.Times.{IsPositive, Time, time_zero, IsBefore}
+use Rattle.int_vectors.specs.Vectors.{Each, IsZero, IsPositive, scale, at}
+use Rattle.cayley.specs.Times.{Time, time_zero, IsBefore}
 use Rattle.cayley.specs.Problems.{Point}
 use Rattle.cayley.specs.Cells.{Cell, EachPair, IsFurther}
 

@@ -6,8 +6,8 @@ use Rattle.wide_int.proofs.Ring.{as_D, Ds, same_D, D-pos}
 use Rattle.wide_int.proofs.Order.{sign_cases, mul_pos_ℤ}
 use Rattle.cayley.proofs.Algebra.ScaledInverse.{at-add, at-scale}
 use Rattle.cayley.proofs.Order.Lexicographic.{positive-add, positive-add_zero, positive-scale, positive-unscale, positive-same, zero-scale, not_both, three, minus_one}
-use Rattle.int_vectors.specs.Vectors.{IsZero, scale, add, at, Each}
-use Rattle.cayley.specs.Times.{IsPositive, Time}
+use Rattle.int_vectors.specs.Vectors.{IsZero, IsPositive, scale, add, at, Each}
+use Rattle.cayley.specs.Times.{Time}
 
 pub record Line : Type 0 where
   pub start : List ℤ

@@ -9,8 +9,8 @@ use Rattle.cayley.proofs.Order.Lined.{turned_line, turn-back, SignBefore, sign_t
 use Rattle.cayley.proofs.OneCell.CellNormals.{a_normal}
 use Rattle.cayley.proofs.OneCell.CellLines.{point_line}
 use Rattle.cayley.proofs.Order.Soon.{Soon, soon_pairs, soon_further, each_pair-map}
-use Rattle.int_vectors.specs.Vectors.{scale}
-use Rattle.cayley.specs.Times.{IsPositive, Time}
+use Rattle.int_vectors.specs.Vectors.{IsPositive, scale}
+use Rattle.cayley.specs.Times.{Time}
 use Rattle.cayley.specs.Problems.{Point, Problem, point_at, IsProblem}
 use Rattle.cayley.specs.Normals.{Normal, gap, IsNormal}
 use Rattle.cayley.specs.Cells.{Cell, EachPair, IsOf, IsIndependent, IsFurther}

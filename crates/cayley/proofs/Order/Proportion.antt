@@ -3,8 +3,7 @@ use Rattle.std.proofs.Common.{◌≡◌, ◌≢◌, ◌⊎◌, ℕ, List, arith,
 use Rattle.std.proofs.lemmas.Int.{ints}
 use Rattle.std.proofs.Math.IntN.{ℤ, pos, ◌*ℤ◌, *ℤ-zero}
 use Rattle.wide_int.proofs.Order.{zero_product}
-use Rattle.int_vectors.specs.Vectors.{IsZero, scale, at}
-use Rattle.cayley.specs.Times.{IsPositive}
+use Rattle.int_vectors.specs.Vectors.{IsZero, IsPositive, scale, at}
 use Rattle.cayley.proofs.Algebra.ScaledInverse.{at-scale}
 use Rattle.cayley.proofs.Algebra.RowDependencies.{zero-at}
 use Rattle.cayley.proofs.Order.Lexicographic.{positive-same, positive-scale, positive-unscale}

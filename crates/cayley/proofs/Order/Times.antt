@@ -9,8 +9,8 @@ use Rattle.cayley.proofs.Algebra.RowDependencies.{zero-at}
 use Rattle.cayley.proofs.Algebra.RowNormals.{at-zero}
 use Rattle.cayley.proofs.Order.Lexicographic.{positive-scale, positive-same, not_zero, three, minus_one}
 use Rattle.cayley.proofs.Order.Lines.{later, Before, NotNegative, positive_mix, before_trans, next, before_next}
-use Rattle.int_vectors.specs.Vectors.{IsZero, scale, add, at}
-use Rattle.cayley.specs.Times.{IsPositive, Time}
+use Rattle.int_vectors.specs.Vectors.{IsZero, IsPositive, scale, add, at}
+use Rattle.cayley.specs.Times.{Time}
 
 -- the same time, maybe written over another number
 abbrev pub Same : Time → Time → Type 0

@@ -3,8 +3,8 @@ use Rattle.std.proofs.Common.{◌≡◌, ◌≢◌, ◌⊎◌, ℕ, zero, suc, �
 use Rattle.std.proofs.lemmas.Int.{ints}
 use Rattle.std.proofs.Math.IntN.{ℤ, pos, ◌+ℤ◌, ◌-ℤ◌, ◌*ℤ◌, neg_ℤ, *ℤ-zero}
 use native.Mathlib.Decide.{ℕ_discrete}
-use Rattle.int_vectors.specs.Vectors.{IsZero, dot, at, sub, scale}
-use Rattle.cayley.specs.Times.{Time, IsPositive}
+use Rattle.int_vectors.specs.Vectors.{IsZero, IsPositive, dot, at, sub, scale}
+use Rattle.cayley.specs.Times.{Time}
 use Rattle.cayley.specs.Problems.{Point, Problem, point_at}
 use Rattle.cayley.specs.Paths.{start_pairs, start_cell}
 use Rattle.cayley.specs.Cells.{Cell}

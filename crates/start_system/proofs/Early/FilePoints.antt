@@ -4,9 +4,9 @@ use Rattle.std.proofs.lemmas.Int.{ints}
 use Rattle.std.proofs.Math.IntN.{ℤ, pos, negsuc, ◌+ℤ◌, ◌-ℤ◌, ◌*ℤ◌, neg_ℤ}
 use borrow.Author.Differences.{up, down}
 use native.Mathlib.Decide.{ℕ_discrete, dec_le}
-use Rattle.int_vectors.specs.Vectors.{weigh, Each, IsZero, dot, at, add, scale}
+use Rattle.int_vectors.specs.Vectors.{weigh, Each, IsZero, IsPositive, dot, at, add, scale}
 use Rattle.int_vectors.proofs.Weighing.{weigh-lin}
-use Rattle.cayley.specs.Times.{Time, IsBefore, IsPositive}
+use Rattle.cayley.specs.Times.{Time, IsBefore}
 use Rattle.cayley.specs.Problems.{Point, Problem, point_at}
 use Rattle.cayley.specs.Cells.{Cell, EachPair, IsFurther}
 use Rattle.cayley.specs.Normals.{Normal, height, gap, IsNormal, AllAbove}

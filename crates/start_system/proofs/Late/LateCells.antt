@@ -4,8 +4,8 @@ use Rattle.std.proofs.lemmas.Int.{ints}
 use Rattle.std.proofs.Math.IntN.{ℤ, pos, ◌+ℤ◌, ◌-ℤ◌, ◌*ℤ◌, neg_ℤ, *ℤ-zero}
 use borrow.Author.Differences.{up, down}
 use native.Mathlib.Decide.{dec_le}
-use Rattle.int_vectors.specs.Vectors.{IsZero, dot, at, sub, scale}
-use Rattle.cayley.specs.Times.{Time, IsPositive, time_zero}
+use Rattle.int_vectors.specs.Vectors.{IsZero, IsPositive, dot, at, sub, scale}
+use Rattle.cayley.specs.Times.{Time, time_zero}
 use Rattle.cayley.specs.Problems.{Point, Problem, point_at}
 use Rattle.cayley.specs.Cells.{Cell, EachPair, IsOf, IsIndependent, IsFurther}
 use Rattle.cayley.specs.Normals.{Normal, gap, IsNormal, AllAbove}

@@ -2,8 +2,8 @@
 use Rattle.std.proofs.Common.{◌≡◌, ◌⊎◌, ℕ, zero, suc, ◌+◌, List, [], ◌∷◌, map, arith, refl, sym, ap, ap₂, ◌∙◌, inl, inr}
 use Rattle.std.proofs.lemmas.Int.{ints}
 use Rattle.std.proofs.Math.IntN.{ℤ, pos, ◌+ℤ◌, ◌*ℤ◌, *ℤ-zero}
-use Rattle.int_vectors.specs.Vectors.{IsZero, dot, at, add, at_place}
-use Rattle.cayley.specs.Times.{IsPositive, time_zero}
+use Rattle.int_vectors.specs.Vectors.{IsZero, IsPositive, dot, at, add, at_place}
+use Rattle.cayley.specs.Times.{time_zero}
 use Rattle.cayley.specs.Problems.{Point}
 use Rattle.cayley.specs.Normals.{Normal, mark, gap}
 use Rattle.cayley.proofs.Algebra.RowDependencies.{zero-at}

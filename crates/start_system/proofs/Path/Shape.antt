@@ -3,8 +3,7 @@ use Rattle.std.proofs.Common.{◌≡◌, ◌≢◌, ℕ, zero, suc, ◌+◌, ◌
 use native.Mathlib.Decide.{ℕ_discrete}
 use Rattle.std.proofs.lemmas.Int.{ints}
 use Rattle.std.proofs.Math.IntN.{ℤ, pos, ◌*ℤ◌, neg_ℤ}
-use Rattle.int_vectors.specs.Vectors.{weigh, Each, dot, at, add, at_place}
-use Rattle.cayley.specs.Times.{IsPositive}
+use Rattle.int_vectors.specs.Vectors.{IsPositive, weigh, Each, dot, at, add, at_place}
 use Rattle.cayley.specs.Problems.{Point, point_at}
 use Rattle.cayley.specs.Cells.{Cell, EachPair}
 use Rattle.wide_int.proofs.Order.{mul_le_ℤ}
