@@ -1,6 +1,2 @@
-pub mod EntryRule
-pub mod ExitRule
-pub mod Found
-pub mod Leading
-pub mod Once
+pub mod Lists
 pub mod Zeros
