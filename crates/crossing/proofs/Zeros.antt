@@ -1,7 +1,9 @@
 -- values and zeros of lines, entry by entry
-use Rattle.std.proofs.Common.{◌≡◌, ◌⊎◌, inl, inr, ℕ, ◌∙◌, List, ℤ, pos, neg_ℤ, ◌+ℤ◌, ◌-ℤ◌, ◌*ℤ◌, ◌<ℤ◌, refl, arith}
+use Rattle.std.proofs.Common.{◌≡◌, ◌⊎◌, inl, inr, ℕ, ◌∙◌, List, ℤ, pos, neg_ℤ, ◌+ℤ◌, ◌-ℤ◌, ◌*ℤ◌, ◌<ℤ◌, sym, ap, arith}
 use Rattle.std.proofs.lemmas.Int.{ints}
-use Rattle.wide_int.proofs.Ring.{as_D, Ds, same_D}
+use Rattle.std.proofs.Math.IntN.{*ℤ_comm}
+use Rattle.wide_int.proofs.Ring.{as_D, Ds, same_D, zero_mul_ℤ}
+use Rattle.wide_int.proofs.Order.{lt_cancel, mul_cancel, mul_pos_ℤ}
 use Rattle.int_vectors.specs.Vectors.{IsZero, IsPositive, at}
 use Rattle.lex_height.specs.Order.{IsLess, IsSame}
 use Rattle.lex_height.proofs.Comparing.{less_less, less_same, same_less, same_same, same_back, not_below_itself, less_turned, less_as}
@@ -98,3 +100,34 @@ turned_less w p u q h = less_as (λ k. neg_ℤ (neg_ℤ (u k))) u (λ k. neg_ℤ
 
 pub less_turn : (w : ℕ → ℤ) (p : ℤ) (u : ℕ → ℤ) (q : ℤ) → IsLess u q w p → IsLess (turn Rising w) p (turn Rising u) q
 less_turn w p u q h = less_turned u q w p h
+
+-- positive at t / q, zero at u / p
+pub zero_later : (way : Way) (y : WallLine) → Goes way y → (t : List ℤ) (q : ℤ) → pos 0 <ℤ q → IsPositive (value y t q) → (u : List ℤ) (p : ℤ) → pos 0 <ℤ p → IsZero (value y u p) → IsLess (turn way (at t)) q (turn way (at u)) p
+zero_later way y g t q pq h u p pp z =
+    less_same (turn way (at t)) q (start y) (steep way y) (turn way (at u)) p pq g pp (positive_ratio way y t q h) (same_back (turn way (at u)) p (start y) (steep way y) (zero_ratio way y u p z))
+
+-- ---- lines that are level
+module _ (line : WallLine) (level : line.beta ≡ pos 0) (t : List ℤ) (q : ℤ) (pq : pos 0 <ℤ q) where
+  level_at : (k : ℕ) → at (value line t q) k ≡ start line k *ℤ q
+  level_at k = value_at line t q k ∙ without line.beta q (start line k) (at t k) level
+    where
+      without : (b q a p : ℤ) → b ≡ pos 0 → q *ℤ a +ℤ b *ℤ p ≡ a *ℤ q
+      without b q a p e = let f : b *ℤ p ≡ pos 0 = rw e (omega (arith, ints)) in let c = *ℤ_comm q a in omega (arith, ints, f, c)
+
+  pub level_start : IsPositive (value line t q) → IsPositive (constant line)
+  level_start h =
+      let p = positive_at (value line t q) h in
+      positive_from (constant line) (
+        p.0,
+        lt_cancel (pos 0) (start line p.0) q pq (let a = p.1 in let e = level_at p.0 in let z = zero_mul_ℤ q in omega (arith, ints, a, e, z)),
+        λ k lt. mul_cancel (start line k) (pos 0) q (λ e. omega (arith, ints, e, pq)) (sym (level_at k) ∙ p.2 k lt ∙ sym (zero_mul_ℤ q)),
+      )
+
+  pub level_value : IsPositive (constant line) → IsPositive (value line t q)
+  level_value h =
+      let p = positive_at (constant line) h in
+      positive_from (value line t q) (
+        p.0,
+        (let a = mul_pos_ℤ (start line p.0) q p.1 pq in let e = level_at p.0 in omega (arith, ints, a, e)),
+        λ k lt. level_at k ∙ ap (λ z. z *ℤ q) (p.2 k lt) ∙ zero_mul_ℤ q,
+      )
