@@ -92,7 +92,7 @@ module _ (way : Way) (x y : WallLine) (gx : Goes way x) (gy : Goes way y) where
   positive_too n t q pq h = ratio_positive way y t q (less_level (turn way (at t)) q (constant x) (steep way x) (constant y) (steep way y) pq gx gy (positive_ratio way x t q h) n)
 
 -- ---- the order of times as it runs on this way
-double_neg : (x : ℤ) → neg_ℤ (neg_ℤ x) ≡ x
+pub double_neg : (x : ℤ) → neg_ℤ (neg_ℤ x) ≡ x
 double_neg x = omega (arith, ints)
 
 pub turned_less : (w : ℕ → ℤ) (p : ℤ) (u : ℕ → ℤ) (q : ℤ) → IsLess (turn Rising w) p (turn Rising u) q → IsLess u q w p
