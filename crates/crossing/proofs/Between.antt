@@ -21,7 +21,7 @@ use Rattle.crossing.specs.Entries.{RisesAt, IsGreatestRise, LiveSometime, IsEntr
 use Rattle.crossing.specs.Exits.{FallsAt, IsLeastFall, IsExit}
 use Rattle.crossing.specs.Between.{IsAfterEntry, IsBeforeExit, PositiveBetween}
 use Rattle.crossing.proofs.Lists.{at-scale, earlier_less, less_earlier, either, not_zero}
-use Rattle.crossing.proofs.Zeros.{turn, ratio_zero, ratio_positive, zero_later, less_level, turned_less, less_turn, level_start, level_value}
+use Rattle.crossing.proofs.Values.{turn, ratio_zero, ratio_positive, zero_later, less_level, turned_less, less_turn, level_start, level_value}
 use Rattle.crossing.proofs.Once.{has_at}
 
 -- ---- the zero of a line

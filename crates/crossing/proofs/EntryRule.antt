@@ -20,7 +20,7 @@ use Rattle.crossing.specs.Leading.{start, Goes, IsLed, nth, first_of}
 use Rattle.crossing.specs.Entries.{RisesAt, IsGreatestRise, LiveSometime, IsEntry}
 use Rattle.crossing.specs.Found.{IsLow, RisesFirst, IsOpenBetween, IsOpen}
 use Rattle.crossing.proofs.Lists.{at-sum, positive_from, positive_stable, earlier_less}
-use Rattle.crossing.proofs.Zeros.{turn, value_at, positive_ratio, double_neg, less_turn, level_start, level_value}
+use Rattle.crossing.proofs.Values.{turn, value_at, positive_ratio, double_neg, less_turn, level_start, level_value}
 use Rattle.crossing.proofs.Once.{time_once, first_once, only_once, one_or_two, second_once}
 use Rattle.crossing.proofs.Found.{none_goes, first_goes, all_positive, zero_first, one_only, two_first, nothing, the_one}
 

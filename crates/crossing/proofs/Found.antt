@@ -14,7 +14,7 @@ use Rattle.crossing.specs.Places.{HasAt, IsNowhere, IsFirst, IsOnly, AreFirstTwo
 use Rattle.crossing.specs.Leading.{steep, start, Goes, IsBefore, IsLed, nth, first_of}
 use Rattle.crossing.proofs.Leading.{same_or_not}
 use Rattle.crossing.proofs.Once.{has_at}
-use Rattle.crossing.proofs.Zeros.{turn, zero_le, apart, even_zero, positive_too}
+use Rattle.crossing.proofs.Values.{turn, zero_le, apart, even_zero, positive_too}
 
 -- the line goes this way and is zero at the time
 abbrev pub GoesAt : Way → lex.Value → WallLine → Type 0

@@ -6,7 +6,8 @@ ghost use Rattle.crossing.specs.Entries.{IsEntry};
 ghost use Rattle.crossing.specs.Found.{IsLow, IsOpen, RisesFirst};
 
 use crate::leaders::{Leaders, Way, leaders_of};
-use crate::line::{WallLine, zero_of, zero_parts};
+use crate::line::WallLine;
+use crate::zeros::{zero_of, zero_parts};
 use lex_height::{Lex, compare_parts};
 use std::cmp::Ordering;
 use wide_int::compare;
@@ -36,13 +37,12 @@ fn is_positive(line: &WallLine) -> bool
     requires { FitsLine line.now }
     ensures { IsTrue result ↔ IsPositive (constant line.now) }
 {
-    match line.alpha.cmp(&0) {
-        Ordering::Less => false,
-        Ordering::Greater => true,
-        Ordering::Equal => match line.fine.as_slice() {
-            [] => false,
-            [part, ..] => part.num > 0,
-        },
+    if line.alpha != 0 {
+        return line.alpha > 0;
+    }
+    match line.fine.as_slice() {
+        [] => false,
+        [part, ..] => part.num > 0,
     }
 }
 
@@ -69,9 +69,9 @@ fn comes_before(rise: &WallLine, fall: &WallLine) -> bool
 {
     let ahead = match compare(-rise.alpha, rise.beta, fall.alpha, -fall.beta) {
         Ordering::Equal => compare_parts(
-            zero_parts(rise).as_slice(),
+            zero_parts(Way::Rising, rise).as_slice(),
             rise.beta,
-            zero_parts(fall).as_slice(),
+            zero_parts(Way::Falling, fall).as_slice(),
             -fall.beta,
         ),
         order => order,
@@ -107,11 +107,11 @@ pub fn entry_of(lines: &[WallLine]) -> Entry
     match rising {
         Leaders::None => Entry::Always,
         Leaders::One(index) => Entry::At {
-            time: zero_of(&lines[index]),
+            time: zero_of(Way::Rising, &lines[index]),
             which: index + 1,
         },
         Leaders::Two(first, second) => Entry::Tied {
-            time: zero_of(&lines[first]),
+            time: zero_of(Way::Rising, &lines[first]),
             first: first + 1,
             second: second + 1,
         },

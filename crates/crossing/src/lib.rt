@@ -7,6 +7,7 @@ mod fine;
 pub mod laws;
 mod leaders;
 mod line;
+mod zeros;
 
 pub use entry::{Entry, entry_of};
 pub use exit::{Exit, exit_of};
