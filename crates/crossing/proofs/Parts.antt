@@ -13,7 +13,7 @@ use Rattle.lex_height.specs.Entries.{entry, entries_from, entries, at_rank}
 use Rattle.lex_height.specs.Order.{IsLess, IsSame}
 use Rattle.lex_height.specs.Room.{blank}
 use Rattle.lex_height.specs.Values as lex
-use Rattle.lex_height.proofs.Ranks.{entries_is, entry_below, weaker}
+use Rattle.lex_height.proofs.Ranks.{entries_is, entry_other, entry_below, weaker}
 use Rattle.lex_height.proofs.Comparing.{less_as, same_as, same_turned}
 use Rattle.crossing.specs.declared.line.WallLine.{WallLine}
 use Rattle.crossing.specs.declared.leaders.Way.{Way}
@@ -193,8 +193,8 @@ entry_whole (pos zero) fine h zero = entry_below 1 fine h 0 (omega arith)
 entry_whole (pos (suc n)) fine h zero = refl
 entry_whole (negsuc n) fine h zero = refl
 entry_whole (pos zero) fine h (suc k) = sym (later_is fine h k)
-entry_whole (pos (suc n)) fine h (suc k) = sym (later_is fine h k)
-entry_whole (negsuc n) fine h (suc k) = sym (later_is fine h k)
+entry_whole (pos (suc n)) fine h (suc k) = entry_other (record { rank = 0; num = pos (suc n) }) fine (suc k) (λ e. omega (arith, e)) ∙ sym (later_is fine h k)
+entry_whole (negsuc n) fine h (suc k) = entry_other (record { rank = 0; num = negsuc n }) fine (suc k) (λ e. omega (arith, e)) ∙ sym (later_is fine h k)
 
 pub zero_entry : (way : Way) (line : WallLine) → FitsLine line → (k : ℕ) → entry (zero_numbers way line) k ≡ turned_by way (start line k)
 zero_entry way line h k = entry_turned way (first_part line.alpha ++ line.fine) k ∙ ap (turned_by way) (entry_whole line.alpha line.fine h.3 k)
@@ -232,3 +232,34 @@ first_test l fine alpha e h z le = subst (λ (m : List LexPart). IsTrue (lt_z (p
 pub no_length : (l : List LexPart) → length l ≡ 0 → l ≡ []
 no_length [] e = refl
 no_length (part ∷ parts) e = absurd (omega (arith, e))
+
+-- ---- one part after the other
+pub each_fits : (n : ℕ) (fine : List LexPart) (i : ℕ) (d : LexPart) → lex.AreParts n fine → i < length fine → FitsWhole (slice_index_or fine i d).num
+each_fits n [] i d h lt = absurd (omega (arith, lt))
+each_fits n (part ∷ parts) zero d h lt = h.2
+each_fits n (part ∷ parts) (suc i) d h lt = each_fits (part.rank + 1) parts i d h.3 (omega (arith, lt))
+
+some_taken : (fine : List LexPart) (i : ℕ) → i < length fine → length (take i fine) < length fine
+some_taken [] i lt = absurd (omega (arith, lt))
+some_taken (part ∷ parts) zero lt = omega arith
+some_taken (part ∷ parts) (suc i) lt = let r = some_taken parts i (omega (arith, lt)) in omega (arith, r)
+
+pub next_room : (way : Way) (alpha : ℤ) (fine : List LexPart) (i : ℕ) → i < length fine → length fine ≤ 33 → length (map (turned_part way) (first_part alpha ++ take i fine)) < 34
+next_room way alpha fine i lt le = let a = zero_room way alpha (take i fine) in let b = some_taken fine i lt in omega (arith, a, b, le)
+
+module _ (f : LexPart → LexPart) where
+  one_more : (fine : List LexPart) (i : ℕ) (d : LexPart) → i < length fine → map f (take i fine) ++ f (slice_index_or fine i d) ∷ [] ≡ map f (take (suc i) fine)
+  one_more [] i d lt = absurd (omega (arith, lt))
+  one_more (part ∷ parts) zero d lt = refl
+  one_more (part ∷ parts) (suc i) d lt = ap (λ (l : List LexPart). f part ∷ l) (one_more parts i d (omega (arith, lt)))
+
+  pub parts_next : (before fine : List LexPart) (i : ℕ) (d : LexPart) → i < length fine → map f (before ++ take i fine) ++ f (slice_index_or fine i d) ∷ [] ≡ map f (before ++ take (i + 1) fine)
+  parts_next [] fine i d lt = let e : suc i ≡ i + 1 = omega arith in one_more fine i d lt ∙ ap (λ n. map f (take n fine)) e
+  parts_next (part ∷ before) fine i d lt = ap (λ (l : List LexPart). f part ∷ l) (parts_next before fine i d lt)
+
+all_taken : (fine : List LexPart) → take (length fine) fine ≡ fine
+all_taken [] = refl
+all_taken (part ∷ parts) = ap (λ (l : List LexPart). part ∷ l) (all_taken parts)
+
+pub taken_all : (fine : List LexPart) (i : ℕ) → i ≡ length fine → take i fine ≡ fine
+taken_all fine i e = ap (λ n. take n fine) e ∙ all_taken fine
