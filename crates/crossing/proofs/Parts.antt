@@ -20,6 +20,7 @@ use Rattle.crossing.specs.declared.leaders.Way.{Way}
 use Rattle.crossing.specs.declared.leaders.Way.TheVariants.{Falling, Rising}
 use Rattle.crossing.specs.Lines.{FitsLine, constant, value, IsFlat, IsZeroAt}
 use Rattle.crossing.specs.Leading.{steep, start, Goes, IsBefore, IsEven}
+use Rattle.crossing.specs.Found.{RisesFirst, RisesWith, FallsFirst}
 use Rattle.crossing.specs.Zeros.{turned_by, turned_part, first_part, zero_numbers}
 use Rattle.crossing.proofs.Lists.{zero_at}
 use Rattle.crossing.proofs.Values.{value_at, ratio_zero}
@@ -263,3 +264,28 @@ all_taken (part ∷ parts) = ap (λ (l : List LexPart). part ∷ l) (all_taken p
 
 pub taken_all : (fine : List LexPart) (i : ℕ) → i ≡ length fine → take i fine ≡ fine
 taken_all fine i e = ap (λ n. take n fine) e ∙ all_taken fine
+
+-- ---- the zero as a value
+pub zero_accepted : (way : Way) (line : WallLine) → FitsLine line → Goes way line → FitsWhole (steep way line) → lex.IsAccepted (zero_numbers way line) (steep way line)
+zero_accepted way line h g f = (
+  (let a = zero_room way line.alpha line.fine in let b = h.2 in omega (arith, a, b)),
+  zero_are way line h,
+  g,
+  f,
+)
+
+-- ---- the order of the zeros of a rising and a falling line
+pub zeros_order : (x y : WallLine) (o : Ordering) → FitsLine x → FitsLine y
+    → MatchOrdering o (IsLess (entry (zero_numbers Rising x)) x.beta (entry (zero_numbers Falling y)) (neg_ℤ y.beta)) (IsSame (entry (zero_numbers Rising x)) x.beta (entry (zero_numbers Falling y)) (neg_ℤ y.beta))
+        (IsLess (entry (zero_numbers Falling y)) (neg_ℤ y.beta) (entry (zero_numbers Rising x)) x.beta)
+    → MatchOrdering o (RisesFirst x y) (RisesWith x y) (FallsFirst x y)
+zeros_order x y Less fx fy m = less_as (entry (zero_numbers Rising x)) (λ k. neg_ℤ (start x k)) (entry (zero_numbers Falling y)) (start y) x.beta (neg_ℤ y.beta) (zero_entry Rising x fx) (zero_entry Falling y fy) m
+zeros_order x y Equal fx fy m = same_as (entry (zero_numbers Rising x)) (λ k. neg_ℤ (start x k)) (entry (zero_numbers Falling y)) (start y) x.beta (neg_ℤ y.beta) (zero_entry Rising x fx) (zero_entry Falling y fy) m
+zeros_order x y Greater fx fy m = less_as (entry (zero_numbers Falling y)) (start y) (entry (zero_numbers Rising x)) (λ k. neg_ℤ (start x k)) (neg_ℤ y.beta) x.beta (zero_entry Falling y fy) (zero_entry Rising x fx) m
+
+pub firsts_order : (x y : WallLine) (o : Ordering) → o ≢ Equal
+    → MatchOrdering o ((neg_ℤ x.alpha *ℤ neg_ℤ y.beta) <ℤ (y.alpha *ℤ x.beta)) (neg_ℤ x.alpha *ℤ neg_ℤ y.beta ≡ y.alpha *ℤ x.beta) ((y.alpha *ℤ x.beta) <ℤ (neg_ℤ x.alpha *ℤ neg_ℤ y.beta))
+    → MatchOrdering o (RisesFirst x y) (RisesWith x y) (FallsFirst x y)
+firsts_order x y Less n m = (0, m, λ k lt. absurd (omega (arith, lt)))
+firsts_order x y Equal n m = absurd (n refl)
+firsts_order x y Greater n m = (0, m, λ k lt. absurd (omega (arith, lt)))

@@ -1,9 +1,10 @@
 ghost use Rattle.std.specs.Prelude.{◌≡◌, ◌<◌, ◌≤◌, pos, All, HoldsAt, length, IsTrue, ◌↔◌, ℕ};
+ghost use Rattle.std.specs.Ordering.{MatchOrdering};
 ghost use Rattle.int_vectors.specs.Vectors.{IsPositive};
 ghost use Rattle.crossing.specs.Lines.{FitsLine, constant};
 ghost use Rattle.crossing.specs.Leading.{Goes, IsLed};
 ghost use Rattle.crossing.specs.Entries.{IsEntry};
-ghost use Rattle.crossing.specs.Found.{IsLow, IsOpen, RisesFirst};
+ghost use Rattle.crossing.specs.Found.{IsLow, IsOpen, RisesFirst, RisesWith, FallsFirst};
 
 use crate::leaders::{Leaders, Way, leaders_of};
 use crate::line::WallLine;
@@ -59,6 +60,26 @@ fn has_low(lines: &[WallLine]) -> bool
     false
 }
 
+// The order of the zeros of a rising and a falling line.
+fn compare_zeros(rise: &WallLine, fall: &WallLine) -> Ordering
+    requires rise_fits { FitsLine rise.now }
+    requires fall_fits { FitsLine fall.now }
+    requires rises { Goes Way.Rising rise.now }
+    requires falls { Goes Way.Falling fall.now }
+    ensures { MatchOrdering result (RisesFirst rise.now fall.now) (RisesWith rise.now fall.now) (FallsFirst rise.now fall.now) }
+{
+    let steep = -fall.beta;
+    match compare(-rise.alpha, rise.beta, fall.alpha, steep) {
+        Ordering::Equal => compare_parts(
+            zero_parts(Way::Rising, rise).as_slice(),
+            rise.beta,
+            zero_parts(Way::Falling, fall).as_slice(),
+            steep,
+        ),
+        order => order,
+    }
+}
+
 // Whether the zero of a rising line comes before that of a falling line.
 fn comes_before(rise: &WallLine, fall: &WallLine) -> bool
     requires rise_fits { FitsLine rise.now }
@@ -67,16 +88,7 @@ fn comes_before(rise: &WallLine, fall: &WallLine) -> bool
     requires falls { Goes Way.Falling fall.now }
     ensures { IsTrue result ↔ RisesFirst rise.now fall.now }
 {
-    let ahead = match compare(-rise.alpha, rise.beta, fall.alpha, -fall.beta) {
-        Ordering::Equal => compare_parts(
-            zero_parts(Way::Rising, rise).as_slice(),
-            rise.beta,
-            zero_parts(Way::Falling, fall).as_slice(),
-            -fall.beta,
-        ),
-        order => order,
-    };
-    ahead.is_lt()
+    compare_zeros(rise, fall).is_lt()
 }
 
 // Whether the last zero of a rising line comes before the first zero of a falling line.
