@@ -111,9 +111,9 @@ module _ (t : List ℤ) (q : ℤ) (u : List ℤ) (p : ℤ) where
     | inr r ↦ inr (elim r [
       | inl z ↦ inl (λ k. let a = z k in let e = difference_is k in omega (arith, ints, a, e))
       | inr h ↦ inr (
-          h.0,
-          (let a = h.1 in let e = difference_is h.0 in omega (arith, ints, a, e)),
-          λ k lt. let a = h.2 k lt in let e = difference_is k in omega (arith, ints, a, e),
+        h.0,
+        (let a = h.1 in let e = difference_is h.0 in omega (arith, ints, a, e)),
+        λ k lt. let a = h.2 k lt in let e = difference_is k in omega (arith, ints, a, e),
       )
     ])
   ]

@@ -277,7 +277,7 @@ zero_accepted way line h g f = (
 -- ---- the order of the zeros of a rising and a falling line
 pub zeros_order : (x y : WallLine) (o : Ordering) → FitsLine x → FitsLine y
     → MatchOrdering o (IsLess (entry (zero_numbers Rising x)) x.beta (entry (zero_numbers Falling y)) (neg_ℤ y.beta)) (IsSame (entry (zero_numbers Rising x)) x.beta (entry (zero_numbers Falling y)) (neg_ℤ y.beta))
-        (IsLess (entry (zero_numbers Falling y)) (neg_ℤ y.beta) (entry (zero_numbers Rising x)) x.beta)
+    (IsLess (entry (zero_numbers Falling y)) (neg_ℤ y.beta) (entry (zero_numbers Rising x)) x.beta)
     → MatchOrdering o (RisesFirst x y) (RisesWith x y) (FallsFirst x y)
 zeros_order x y Less fx fy m = less_as (entry (zero_numbers Rising x)) (λ k. neg_ℤ (start x k)) (entry (zero_numbers Falling y)) (start y) x.beta (neg_ℤ y.beta) (zero_entry Rising x fx) (zero_entry Falling y fy) m
 zeros_order x y Equal fx fy m = same_as (entry (zero_numbers Rising x)) (λ k. neg_ℤ (start x k)) (entry (zero_numbers Falling y)) (start y) x.beta (neg_ℤ y.beta) (zero_entry Rising x fx) (zero_entry Falling y fy) m

@@ -14,3 +14,5 @@ pub use exit::{Exit, exit_of};
 pub use fine::{FINE_PARTS, Fine};
 pub use line::WallLine;
 
+#[cfg(test)]
+mod tests;

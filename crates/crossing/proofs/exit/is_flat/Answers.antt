@@ -25,7 +25,7 @@ pub returns-in-len1-up : goal.returns-in-len1-up
 returns-in-len1-up c = (
   λ h. absurd (true≢false (sym h)),
   λ f.
-    let e = ap length (c.as_slice.ensures ∙ (flat_parts c.args.line.now c.requires.3 f).2) in
-    let l = c.in-len1-up.len_at_least in
-    absurd (omega (arith, e, l)),
+      let e = ap length (c.as_slice.ensures ∙ (flat_parts c.args.line.now c.requires.3 f).2) in
+      let l = c.in-len1-up.len_at_least in
+      absurd (omega (arith, e, l)),
 )
