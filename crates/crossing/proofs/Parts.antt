@@ -1,5 +1,5 @@
 -- the entries of a line and of its zero, by the parts
-use Rattle.std.proofs.Common.{◌≡◌, ◌≢◌, ◌⊎◌, ◌↔◌, inl, inr, ℕ, zero, suc, ◌+◌, ◌-◌, ◌==◌, ◌<◌, ◌≤◌, Bool, true, false, cond, List, [], ◌∷◌, ◌++◌, length, map, take, slice_index_or, ℤ, pos, negsuc, neg_ℤ, ◌+ℤ◌, ◌*ℤ◌, ◌<ℤ◌, IsTrue, rules, FitsSigned, to_z, of_z, to_z-of_z, Ordering, Less, Equal, Greater, refl, sym, ap, subst, ◌∙◌, arith}
+use Rattle.std.proofs.Common.{◌≡◌, ◌≢◌, ◌↔◌, inl, inr, ℕ, zero, suc, ◌+◌, ◌-◌, ◌==◌, ◌<◌, ◌≤◌, Bool, true, false, cond, List, [], ◌∷◌, ◌++◌, length, map, take, slice_index_or, ℤ, pos, negsuc, neg_ℤ, ◌+ℤ◌, ◌*ℤ◌, ◌<ℤ◌, IsTrue, rules, FitsSigned, to_z, of_z, to_z-of_z, Ordering, Less, Equal, Greater, refl, sym, ap, subst, ◌∙◌, arith}
 use Rattle.std.specs.Int.{w128}
 use Rattle.std.specs.Int.Signed.{lt_z}
 use Rattle.std.proofs.lemmas.Int.{ints, fits_signed_from_abs}
@@ -18,7 +18,7 @@ use Rattle.lex_height.proofs.Comparing.{less_as, same_as, same_turned}
 use Rattle.crossing.specs.declared.line.WallLine.{WallLine}
 use Rattle.crossing.specs.declared.leaders.Way.{Way}
 use Rattle.crossing.specs.declared.leaders.Way.TheVariants.{Falling, Rising}
-use Rattle.crossing.specs.Lines.{FitsLine, constant, value, IsFlat, IsZeroAt}
+use Rattle.crossing.specs.Lines.{FitsLine, value, IsFlat, IsZeroAt}
 use Rattle.crossing.specs.Leading.{steep, start, Goes, IsBefore, IsEven}
 use Rattle.crossing.specs.Found.{RisesFirst, RisesWith, FallsFirst}
 use Rattle.crossing.specs.Zeros.{turned_by, turned_part, first_part, zero_numbers}
@@ -239,14 +239,6 @@ pub each_fits : (n : ℕ) (fine : List LexPart) (i : ℕ) (d : LexPart) → lex.
 each_fits n [] i d h lt = absurd (omega (arith, lt))
 each_fits n (part ∷ parts) zero d h lt = h.2
 each_fits n (part ∷ parts) (suc i) d h lt = each_fits (part.rank + 1) parts i d h.3 (omega (arith, lt))
-
-some_taken : (fine : List LexPart) (i : ℕ) → i < length fine → length (take i fine) < length fine
-some_taken [] i lt = absurd (omega (arith, lt))
-some_taken (part ∷ parts) zero lt = omega arith
-some_taken (part ∷ parts) (suc i) lt = let r = some_taken parts i (omega (arith, lt)) in omega (arith, r)
-
-pub next_room : (way : Way) (alpha : ℤ) (fine : List LexPart) (i : ℕ) → i < length fine → length fine ≤ 33 → length (map (turned_part way) (first_part alpha ++ take i fine)) < 34
-next_room way alpha fine i lt le = let a = zero_room way alpha (take i fine) in let b = some_taken fine i lt in omega (arith, a, b, le)
 
 module _ (f : LexPart → LexPart) where
   one_more : (fine : List LexPart) (i : ℕ) (d : LexPart) → i < length fine → map f (take i fine) ++ f (slice_index_or fine i d) ∷ [] ≡ map f (take (suc i) fine)

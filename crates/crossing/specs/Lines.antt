@@ -1,5 +1,5 @@
 -- Lines over time. A time t / q is a list t of entries by rank, 0 past its end, over q > 0.
-use Rattle.std.specs.Prelude.{◌≡◌, ℤ, pos, neg_ℤ, ◌<ℤ◌, ◌≤◌, List, ◌∷◌, length, All}
+use Rattle.std.specs.Prelude.{ℤ, pos, neg_ℤ, ◌<ℤ◌, ◌≤◌, List, ◌∷◌, length, All}
 use Rattle.wide_int.specs.Whole.{FitsWhole}
 use Rattle.int_vectors.specs.Vectors.{IsZero, IsPositive, scale, add}
 use Rattle.lex_height.specs.Entries.{entries_from, entries}

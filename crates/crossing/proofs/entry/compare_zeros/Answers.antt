@@ -1,4 +1,4 @@
-use Rattle.std.proofs.Common.{subst, sym, ◌∙◌, ◌≡◌, pos, neg_ℤ, ◌-ℤ◌, FitsSigned, to_z-of_z}
+use Rattle.std.proofs.Common.{subst, sym, ◌∙◌, pos, ◌-ℤ◌, FitsSigned, to_z-of_z}
 use Rattle.std.specs.Int.{w128}
 use Rattle.std.proofs.lemmas.Int.{fits_signed_from_abs}
 use Rattle.wide_int.proofs.Signed.{neg_signed, is_neg}

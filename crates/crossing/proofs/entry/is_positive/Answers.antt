@@ -1,4 +1,4 @@
-use Rattle.std.proofs.Common.{◌≡◌, pos, rules, FitsSigned, of_z}
+use Rattle.std.proofs.Common.{◌≡◌, rules, FitsSigned, of_z}
 use Rattle.std.specs.Int.{w128}
 use Rattle.std.proofs.lemmas.Int.{fits_signed_from_abs}
 use Rattle.wide_int.proofs.Signed.{is_zero}

@@ -1,4 +1,4 @@
-use Rattle.std.proofs.Common.{◌≡◌, List, [], length, true≢false, sym, ap, ◌∙◌, arith, FitsSigned, of_z, eq-eqb, eqb-true}
+use Rattle.std.proofs.Common.{◌≡◌, [], length, true≢false, sym, ap, ◌∙◌, arith, FitsSigned, of_z, eq-eqb, eqb-true}
 use Rattle.std.specs.Int.{w128}
 use Rattle.std.proofs.lemmas.Int.{fits_signed_from_abs}
 use Rattle.wide_int.proofs.Signed.{is_zero}

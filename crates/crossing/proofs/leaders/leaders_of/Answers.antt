@@ -2,7 +2,7 @@ use Rattle.std.proofs.Common.{◌+◌, subst, sym, arith, to_z-of_z, rules, Fits
 use Rattle.std.specs.Int.{w128}
 use Rattle.std.proofs.lemmas.Int.{ints}
 use Rattle.crossing.specs.declared.line.WallLine.{WallLine}
-use Rattle.crossing.specs.Leading.{Goes, IsLed, nth}
+use Rattle.crossing.specs.Leading.{Goes, IsLed}
 use Rattle.crossing.proofs.Leading.{taken, idle}
 use Rattle.crossing.proofs.leaders.leaders_of.Goals as goal
 use Rattle.crossing.proofs.leaders.leaders_of.Goals.{then-steepness-gt0, else-steepness-gt0}

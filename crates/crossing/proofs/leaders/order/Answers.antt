@@ -1,10 +1,8 @@
-use Rattle.std.proofs.Common.{subst, sym, rules, arith, FitsSigned, to_z-of_z, Equal, ◌∙◌, ◌≡◌, ◌*ℤ◌}
+use Rattle.std.proofs.Common.{subst, sym, rules, arith, FitsSigned, to_z-of_z}
 use Rattle.std.specs.Int.{w128}
-use Rattle.std.specs.Ordering.{MatchOrdering}
 use Rattle.std.proofs.lemmas.Int.{fits_signed_from_abs}
 use Rattle.lex_height.specs.Values.{AreParts}
 use Rattle.lex_height.proofs.Ranks.{weaker}
-use Rattle.crossing.specs.Leading.{steep}
 use Rattle.crossing.proofs.Parts.{order_fine, order_first}
 use Rattle.crossing.proofs.leaders.order.Goals as goal
 
