@@ -57,7 +57,10 @@ fn outside(second: &[Vec<i64>]) -> Option<(u32, u32)>
 }
 
 /// Whether these are second heights of the supports' points, and the fault where they aren't.
-pub(crate) fn check_second(supports: &[Vec<FilePoint>], second: &[Vec<i64>]) -> Result<(), ShapeFault>
+pub(crate) fn check_second(
+    supports: &[Vec<FilePoint>],
+    second: &[Vec<i64>],
+) -> Result<(), ShapeFault>
     requires few { length supports.now ≤ 16 }
     requires counts { All (λ s. length s.items ≤ 1000) supports.now }
     ensures { let given = map (λ s. s.items) second.now in
@@ -70,6 +73,20 @@ pub(crate) fn check_second(supports: &[Vec<FilePoint>], second: &[Vec<i64>]) -> 
         Some((support, position)) => Err(ShapeFault::Range { support, position }),
         None => Ok(()),
     }
+}
+
+// The point with its height at time 0 and this one at time 1.
+fn moved(alloc: Global, x: &FilePoint, second: i64) -> Result<Point, OutOfMemory>
+    requires first { IsHeight x.now.height }
+    requires second { IsHeight second }
+    ensures { IfOk result (λ made. point made ≡ files.moved (file_point x.now) second) }
+{
+    let coords = x.coords.copy(alloc)?;
+    Ok(Point {
+        coords,
+        base: x.height,
+        speed: second - x.height,
+    })
 }
 
 // The points with their heights at time 0 and these at time 1.
@@ -87,11 +104,7 @@ fn moved_points(
         return Err(OutOfMemory);
     };
     for (k, x) in points.iter().enumerate() {
-        let point = Point {
-            coords: x.coords.copy(alloc)?,
-            base: x.height,
-            speed: second[k] - x.height,
-        };
+        let point = moved(alloc, x, second[k])?;
         if let Err(_) = made.push(point) {
             return Err(OutOfMemory);
         }
