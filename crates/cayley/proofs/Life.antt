@@ -9,3 +9,6 @@ pub mod Crossings
 pub mod Walls
 pub mod LifeLaws
 pub mod Targets
+pub mod ShownTies
+pub mod StillGaps
+pub mod Still

@@ -23,3 +23,6 @@ pub mod Begins
 pub mod Shapes
 pub mod Resting
 pub mod Reaches
+pub mod StoredTies
+pub mod StillLaws
+pub mod Strangers
