@@ -12,3 +12,5 @@ pub mod Targets
 pub mod ShownTies
 pub mod StillGaps
 pub mod Still
+pub mod Spots
+pub mod NamedTies

@@ -26,3 +26,4 @@ pub mod Reaches
 pub mod StoredTies
 pub mod StillLaws
 pub mod Strangers
+pub mod NamedTies

@@ -7,6 +7,7 @@ ghost use Rattle.cayley.specs.Computed.{AllComputed, ChainLaw};
 ghost use Rattle.cayley.specs.StoredTies.{ShownTieLaw};
 ghost use Rattle.cayley.specs.StillLaws.{StillLaw, MixedLaw};
 ghost use Rattle.cayley.specs.Strangers.{StrangerLaw};
+ghost use Rattle.cayley.specs.NamedTies.{NamedIsShownLaw, NamedTieLaw, OneNamedTieLaw};
 
 /// An independent cell has exactly one normal at every time.
 pub fn one_normal()
@@ -126,4 +127,19 @@ pub fn mixed_law()
 /// A branch whose cell isn't of the problem or doesn't begin where it says has the empty share and the size 0.
 pub fn stranger_law()
     ensures { StrangerLaw }
+{}
+
+/// The tie that is named for a cell is shown by its time and places.
+pub fn named_is_shown_law()
+    ensures { NamedIsShownLaw }
+{}
+
+/// A cell has a named tie exactly where it has a tie at some time.
+pub fn named_tie_law()
+    ensures { NamedTieLaw }
+{}
+
+/// All named ties of a cell have the same time and the same places.
+pub fn one_named_tie_law()
+    ensures { OneNamedTieLaw }
 {}
