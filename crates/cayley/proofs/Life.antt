@@ -14,3 +14,4 @@ pub mod StillGaps
 pub mod Still
 pub mod Spots
 pub mod NamedTies
+pub mod LongerTimes

@@ -27,3 +27,4 @@ pub mod StoredTies
 pub mod StillLaws
 pub mod Strangers
 pub mod NamedTies
+pub mod LongerTimes

@@ -8,6 +8,7 @@ ghost use Rattle.cayley.specs.StoredTies.{ShownTieLaw};
 ghost use Rattle.cayley.specs.StillLaws.{StillLaw, MixedLaw};
 ghost use Rattle.cayley.specs.Strangers.{StrangerLaw};
 ghost use Rattle.cayley.specs.NamedTies.{NamedIsShownLaw, NamedTieLaw, OneNamedTieLaw};
+ghost use Rattle.cayley.specs.LongerTimes.{LongerTimesLaw};
 
 /// An independent cell has exactly one normal at every time.
 pub fn one_normal()
@@ -142,4 +143,9 @@ pub fn named_tie_law()
 /// All named ties of a cell have the same time and the same places.
 pub fn one_named_tie_law()
     ensures { OneNamedTieLaw }
+{}
+
+/// Where a cell begins or ends, the time has no entry other than 0 past the greatest rank.
+pub fn longer_times_law()
+    ensures { LongerTimesLaw }
 {}

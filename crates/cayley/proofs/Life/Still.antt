@@ -1,29 +1,20 @@
 -- where all points rest a cell is alive at every time or at none
 use Rattle.std.specs.Prelude.{slice_index_or, Bool, true, false, if◌then◌else◌}
-use Rattle.std.proofs.Common.{◌≡◌, ℕ, zero, suc, ◌+◌, ◌-◌, List, [], ◌∷◌, map, take, refl}
+use Rattle.std.proofs.Common.{◌≡◌, ℕ, suc, ◌+◌, ◌-◌, List, [], ◌∷◌, map, take, refl}
 use Rattle.std.proofs.Math.IntN.{pos}
 use Rattle.int_vectors.specs.Vectors.{Each}
 use Rattle.cayley.specs.Times.{time_zero}
 use Rattle.cayley.specs.Problems.{Version, Point, origin, Problem, point_at, EachSupport, IsStill, with_rank, is_start_corner, numbered, numbered_supports, ranked_supports, ranks_in, first_points, file_points}
 use Rattle.cayley.specs.Problems.Version.{version1, version2}
-use Rattle.cayley.specs.Cells.{Cell, EachPair}
 use Rattle.cayley.specs.StillLaws.{AllRest, StillLaw, MixedLaw}
+use Rattle.cayley.proofs.Lists.KnownPoints.{known_at, known_pairs}
 use Rattle.cayley.proofs.Life.StillGaps.{gap_zero, gap_positive}
 
 abbrev Rests : Point → Type 0
 Rests x = x.speed ≡ pos 0
 
 rest_at : (s : List Point) (k : ℕ) → Each s Rests → Rests (slice_index_or s k origin)
-rest_at [] k e = refl
-rest_at (x ∷ s) zero e = e.0
-rest_at (x ∷ s) (suc k) e = rest_at s k e.1
-
-rest_pairs : (supports : List (List Point)) (cell : Cell) (P Q : List Point → ℕ → ℕ → Type 0) → Each supports (λ s. Each s Rests)
-    → ((s : List Point) (a b : ℕ) → Each s Rests → P s a b → Q s a b) → EachPair supports cell P → EachPair supports cell Q
-rest_pairs [] [] P Q r f e = tt
-rest_pairs [] (x ∷ cell) P Q r f e = e
-rest_pairs (s ∷ supports) [] P Q r f e = e
-rest_pairs (s ∷ supports) (x ∷ cell) P Q r f e = (f s x.0 x.1 r.0 e.0, rest_pairs supports cell P Q r.1 f e.1)
+rest_at s k e = known_at Rests refl s k e
 
 pub still_law : StillLaw
 still_law p cell t u rest h =
@@ -32,8 +23,8 @@ still_law p cell t u rest h =
       h.1,
       (
         v,
-        (h.2.1.0, rest_pairs p.supports cell _ _ rest (λ s a b r z. gap_zero t u v (point_at s a) (point_at s b) (rest_at s (a - 1) r) (rest_at s (b - 1) r) z) h.2.1.1),
-        rest_pairs p.supports cell _ _ rest (λ s a b r k c f. gap_positive t u v (point_at s a) (point_at s c) (rest_at s (a - 1) r) (rest_at s (c - 1) r) (k c f)) h.2.2,
+        (h.2.1.0, known_pairs Rests p.supports cell _ _ rest (λ s a b r z. gap_zero t u v (point_at s a) (point_at s b) (rest_at s (a - 1) r) (rest_at s (b - 1) r) z) h.2.1.1),
+        known_pairs Rests p.supports cell _ _ rest (λ s a b r k c f. gap_positive t u v (point_at s a) (point_at s c) (rest_at s (a - 1) r) (rest_at s (c - 1) r) (k c f)) h.2.2,
       ),
     )
 
