@@ -4,3 +4,5 @@ mod Squares
 mod OnePoint
 mod LevelPoints
 pub mod ThreePoints
+pub mod Walls
+pub mod NamedPlaces
