@@ -6,3 +6,4 @@ mod LevelPoints
 pub mod ThreePoints
 pub mod Walls
 pub mod NamedPlaces
+pub mod TwoPoints
