@@ -115,11 +115,19 @@ module _ (p : Problem) (cell : Cell) (well : IsProblem p) (of : IsOf p cell) (in
   some_level : (t : Time) (v : Normal) → IsNormal p cell t v → NoneBelow p cell t v → ¬ (IsAlive p cell t) → (x : Spot) × IsLevelThen p cell t x
   some_level t v n below dead = elim (first_spot (IsLevelThen p cell t) (dec_level p cell well of ind t) (suc (length p.supports)) (suc (points_in p.supports)) (λ x h. spot_bound p cell x h.0)) [
     | inl q ↦ (q.0, q.1.0)
-    | inr none ↦ absurd (dead (of, ind, (v, n, place_pair (λ s a c. IsAbove t v s a c) _ p.supports cell of (λ j c f.
-        elim (pair_place (λ s a c. IsAbove t v s a c ⊎ IsLevel t v s a c) p.supports cell below j c f) [
-          | inl a ↦ a
-          | inr z ↦ absurd (none (suc j, c) (level_at_any p cell well of ind t v j c n f z))
-        ]))))
+    | inr none ↦ absurd (dead (
+      of,
+      ind,
+      (
+        v,
+        n,
+        place_pair (λ s a c. IsAbove t v s a c) _ p.supports cell of (λ j c f.
+            elim (pair_place (λ s a c. IsAbove t v s a c ⊎ IsLevel t v s a c) p.supports cell below j c f) [
+              | inl a ↦ a
+              | inr z ↦ absurd (none (suc j, c) (level_at_any p cell well of ind t v j c n f z))
+            ]),
+      ),
+    ))
   ]
 
 -- what is alive at some time has no point that is level at all times

@@ -114,10 +114,13 @@ module _ (p : Problem) (cell : Cell) (well : IsProblem p) (of : IsOf p cell) (in
       (not_zero_number v.0.over v.0.positive) (λ e. sym (l.is t v.0 v.1 e)) (h.1 v.0 v.1)
 
   pub level_from : (t : Time) (x : Spot) → IsFurtherSpot p cell x → IsZero (line_at (line x) t) → IsLevelThen p cell t x
-  level_from t x f z = (f, λ v n.
-      let l = exact (x.0 - 1) x.1 in
-      zero_in_proportion (line_at l.line t) (gap t v (point_at (support_at p.supports (x.0 - 1)) (pair_at cell (x.0 - 1)).0) (point_at (support_at p.supports (x.0 - 1)) x.1)) v.over l.g
-      (not_zero_number l.g l.positive) (l.is t v n) z)
+  level_from t x f z = (
+    f,
+    λ v n.
+        let l = exact (x.0 - 1) x.1 in
+        zero_in_proportion (line_at l.line t) (gap t v (point_at (support_at p.supports (x.0 - 1)) (pair_at cell (x.0 - 1)).0) (point_at (support_at p.supports (x.0 - 1)) x.1)) v.over l.g
+        (not_zero_number l.g l.positive) (l.is t v n) z,
+  )
 
   level_same : (t u : Time) → Same t u → (x : Spot) → IsLevelThen p cell t x → IsLevelThen p cell u x
   level_same t u s x h = level_from u x h.0 (zero_still (line x) t u s (level_to t x h))
@@ -186,9 +189,17 @@ module _ (p : Problem) (cell : Cell) (well : IsProblem p) (of : IsOf p cell) (in
       | inr below ↦ (t, r.0, r.1, inr ((λ u z w k. no_lower below u k.0), (up, r.2)))
       | inl q ↦ elim (two_then q.0) [
         | inl i ↦ (q.0, i.0, i.1, inl (q.1, i.2))
-        | inr none ↦ (t, r.0, r.1, inr ((λ u z w k.
-            let s = lower_once (InSpan p cell) u q.0 k.0 q.1 in
-            none z w k.1.1.0.1 (level_same u q.0 s z k.1.0.0) (level_same u q.0 s w k.1.1.0.0)), (up, r.2)))
+        | inr none ↦ (
+          t,
+          r.0,
+          r.1,
+          inr (
+            (λ u z w k.
+                let s = lower_once (InSpan p cell) u q.0 k.0 q.1 in
+                none z w k.1.1.0.1 (level_same u q.0 s z k.1.0.0) (level_same u q.0 s w k.1.1.0.0)),
+            (up, r.2),
+          ),
+        )
       ]
     ]
   ]
@@ -213,7 +224,7 @@ module _ (p : Problem) (cell : Cell) (well : IsProblem p) (of : IsOf p cell) (in
   named_two : ((z : Spot) → ¬ (IsAlwaysLevel p cell z)) → (t : Time) → InSpan p cell t → (x y : Spot) → ¬ (x ≡ y) → IsLevelThen p cell t x → IsLevelThen p cell t y → Named
   named_two moves t h x y apart a b =
       let r : (u : Time) × (z : Spot) × (w : Spot) × EndTie u z w =
-          spot_cases x y (λ l. end_tie moves t h x y l a b) (λ e. absurd (apart e)) (λ l. end_tie moves t h y x l b a) in
+      spot_cases x y (λ l. end_tie moves t h x y l a b) (λ e. absurd (apart e)) (λ l. end_tie moves t h y x l b a) in
       (r.0, r.1, Some r.2, (of, ind, (moves, r.3)))
 
   named_flat : (t : Time) → InSpan p cell t → (x : Spot) → IsFirst (IsAlwaysLevel p cell) x → Named

@@ -43,9 +43,11 @@ same_first P Q x y f g h k = one_first P x y h (g y k.0, λ z q l. k.1 z (f z q)
 
 pub same_two : (P Q : Spot → Type 0) (x y z w : Spot) → ((z : Spot) → P z → Q z) → ((z : Spot) → Q z → P z) → AreFirstTwo P x y → AreFirstTwo Q z w → (x ≡ z) × (y ≡ w)
 same_two P Q x y z w f g h k =
-    let e = same_first P Q x z f g h.0 k.0 in
-    (e, same_first (λ a. P a × IsEarlier x a) (λ a. Q a × IsEarlier z a) y w
-    (λ a q. (f a q.0, subst (λ b. IsEarlier b a) e q.1)) (λ a q. (g a q.0, subst (λ b. IsEarlier b a) (sym e) q.1)) h.1 k.1)
+    let e = same_first P Q x z f g h.0 k.0 in (
+      e,
+      same_first (λ a. P a × IsEarlier x a) (λ a. Q a × IsEarlier z a) y w
+          (λ a q. (f a q.0, subst (λ b. IsEarlier b a) e q.1)) (λ a q. (g a q.0, subst (λ b. IsEarlier b a) (sym e) q.1)) h.1 k.1,
+    )
 
 -- ---- searched below a bound
 abbrev Least : (ℕ → Type 0) → ℕ → Type 0
@@ -71,10 +73,16 @@ first_spot P dec n m bound =
       | inr none ↦ inr (λ x h. none x.0 (bound x h).0 (x.1, h))
       | inl q ↦ elim (least m (λ c. P (q.0, c)) (λ c. dec (q.0, c))) [
         | inr none ↦ absurd (none q.1.0.0 (bound (q.0, q.1.0.0) q.1.0.1).1 q.1.0.1)
-        | inl r ↦ inl ((q.0, r.0), (r.1.0, λ y h l. elim l [
-          | inl b ↦ q.1.1 y.0 (y.1, h) b
-          | inr b ↦ r.1.1 y.1 (subst (λ j. P (j, y.1)) b.0 h) b.1
-        ]))
+        | inl r ↦ inl (
+          (q.0, r.0),
+          (
+            r.1.0,
+            λ y h l. elim l [
+              | inl b ↦ q.1.1 y.0 (y.1, h) b
+              | inr b ↦ r.1.1 y.1 (subst (λ j. P (j, y.1)) b.0 h) b.1
+            ],
+          ),
+        )
       ]
     ]
 

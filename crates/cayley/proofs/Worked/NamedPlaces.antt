@@ -69,10 +69,17 @@ start_second = (omega arith, omega arith, (λ e. omega (arith, e)), (λ e. omega
 
 -- at time 0 both are above
 start_span_zero : InSpan level_path start time_zero
-start_span_zero = (flat, (refl, ((refl, tt), tt)), ((λ c f. elim (start_further c f) [
-  | inl e ↦ inl (subst (λ k. IsAbove time_zero flat (support_at level_path.supports 0) 3 k) (sym e) (inl (omega (arith, ints))))
-  | inr e ↦ inl (subst (λ k. IsAbove time_zero flat (support_at level_path.supports 0) 3 k) (sym e) (inl (omega (arith, ints))))
-]), tt))
+start_span_zero = (
+  flat,
+  (refl, ((refl, tt), tt)),
+  (
+    (λ c f. elim (start_further c f) [
+      | inl e ↦ inl (subst (λ k. IsAbove time_zero flat (support_at level_path.supports 0) 3 k) (sym e) (inl (omega (arith, ints))))
+      | inr e ↦ inl (subst (λ k. IsAbove time_zero flat (support_at level_path.supports 0) 3 k) (sym e) (inl (omega (arith, ints))))
+    ]),
+    tt,
+  ),
+)
 
 start_moves : (z : Spot) → ¬ (IsAlwaysLevel level_path start z)
 start_moves z h =
