@@ -5,3 +5,6 @@ mod OnePoint
 mod LevelPoints
 pub mod ThreePoints
 mod Perturbed
+pub mod Walls
+pub mod NamedPlaces
+pub mod TwoPoints
