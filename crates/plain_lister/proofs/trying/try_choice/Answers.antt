@@ -1,13 +1,9 @@
-use Rattle.std.proofs.Common.{◌∙◌, refl, sym, ap}
-use Rattle.cayley.specs.Rows.{edge_rows}
+use Rattle.std.proofs.Common.{refl}
 use Rattle.plain_lister.proofs.Growing.{valid_cell, done_other, judged_none, judged_some, kept_cell}
 use Rattle.plain_lister.proofs.trying.try_choice.Goals as goal
 
 pub unreachable-requires : goal.unreachable-requires
 unreachable-requires c = c.in_default.ensures.none.0 refl (valid_cell c.args.problem.now c.args.pairs.now c.requires.valid c.requires.of)
-
-pub judge-requires-clause-edges : goal.judge-requires-clause-edges
-judge-requires-clause-edges c = c.requires.edges ∙ ap (edge_rows c.args.problem.now) (sym c.in-Some.ensures.same)
 
 pub returns-in-Ok-None : goal.returns-in-Ok-None
 returns-in-Ok-None c =
