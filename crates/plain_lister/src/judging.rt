@@ -1,4 +1,4 @@
-ghost use Rattle.std.specs.Prelude.{◌≡◌, MatchOption, MatchResult};
+ghost use Rattle.std.specs.Prelude.{◌≡◌, ◌↔◌, IsTrue, MatchOption, MatchResult};
 ghost use Rattle.cayley.specs.Cells.{IsOf};
 ghost use Rattle.cayley.specs.Problems.{IsStill};
 ghost use Rattle.cayley.specs.Valid.{IsValidProblem};
@@ -7,20 +7,24 @@ ghost use Rattle.plain_lister.specs.Lists.{HasNoCorners, IsJudged};
 ghost use Rattle.reduced_rows.specs.Refusals.{IsFromFault};
 
 use cayley::{Cell, Normal, Problem};
-use cone_walls::{CellFault, Steps, Walls, walls_of};
+use cone_walls::{CellFault, Steps, walls_of};
 use crossing::{Entry, Exit, entry_of, exit_of};
 use inner_normal::in_lowest_terms;
 use reduced_rows::FromFault;
 use std::alloc::Global;
 use std::sync::ledger::Ledger;
 
-// Whether all lines are positive at all times.
-fn always_above(walls: &Walls) -> bool
+// Whether neither end is there.
+fn lasts(entry: Entry, exit: Exit) -> bool
+    ensures { IsTrue result ↔ ((entry ≡ Entry.Always) × (exit ≡ Exit.Never)) }
 {
-    matches!(
-        (entry_of(&walls.lines), exit_of(&walls.lines)),
-        (Entry::Always, Exit::Never)
-    )
+    match entry {
+        Entry::Always => match exit {
+            Exit::Never => true,
+            _ => false,
+        },
+        _ => false,
+    }
 }
 
 /// The cell's normal in lowest terms, where it is a mixed cell: the points rest, so it is alive at all
@@ -45,8 +49,9 @@ pub(crate) fn judge<L: Ledger>(
         Err(CellFault::Overflow) => return Err(FromFault::Overflow),
         Err(CellFault::OutOfMemory) => return Err(FromFault::OutOfMemory),
     };
-    if !always_above(&walls) {
-        return Ok(None);
+    if lasts(entry_of(&walls.lines), exit_of(&walls.lines)) {
+        Ok(Some(in_lowest_terms(walls.normal.p, walls.normal.den)))
+    } else {
+        Ok(None)
     }
-    Ok(Some(in_lowest_terms(walls.normal.p, walls.normal.den)))
 }
