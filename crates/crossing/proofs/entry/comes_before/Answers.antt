@@ -1,24 +1,15 @@
-use Rattle.std.proofs.Common.{◌≡◌, ◌↔◌, ℤ, pos, neg_ℤ, ◌-ℤ◌, ◌*ℤ◌, ◌<ℤ◌, Bool, Ordering, Less, Equal, Greater, IsTrue, true≢false, FitsSigned, to_z-of_z, sym, ◌∙◌, arith}
-use Rattle.std.specs.Int.{w128}
+use Rattle.std.proofs.Common.{◌≡◌, ◌↔◌, pos, neg_ℤ, ◌<ℤ◌, Bool, Ordering, Less, Equal, Greater, IsTrue, true≢false, sym, ◌∙◌}
 use Rattle.std.specs.Ordering.{MatchOrdering, is_lt}
-use Rattle.std.proofs.lemmas.Int.{ints, fits_signed_from_abs}
-use Rattle.wide_int.proofs.Signed.{neg_signed, is_neg}
+use Rattle.lex_height.proofs.Comparing.{less_not_same, less_not_back}
+use Rattle.crossing.specs.declared.line.WallLine.{WallLine}
+use Rattle.crossing.specs.Leading.{start}
+use Rattle.crossing.specs.Found.{RisesFirst, RisesWith, FallsFirst}
 use Rattle.crossing.proofs.entry.comes_before.Goals as goal
 
-told : (o : Ordering) (x y : ℤ) (b : Bool) → MatchOrdering o (x <ℤ y) (x ≡ y) (y <ℤ x) → b ≡ is_lt o → IsTrue b ↔ (x <ℤ y)
-told Less x y b m e = (λ t. m, λ h. e)
-told Equal x y b m e = (λ t. absurd (true≢false (sym t ∙ e)), λ h. absurd (omega (arith, ints, m, h)))
-told Greater x y b m e = (λ t. absurd (true≢false (sym t ∙ e)), λ h. absurd (omega (arith, ints, m, h)))
+told : (o : Ordering) (x y : WallLine) (b : Bool) → pos 0 <ℤ x.beta → pos 0 <ℤ neg_ℤ y.beta → MatchOrdering o (RisesFirst x y) (RisesWith x y) (FallsFirst x y) → b ≡ is_lt o → IsTrue b ↔ RisesFirst x y
+told Less x y b gx gy m e = (λ t. m, λ h. e)
+told Equal x y b gx gy m e = (λ t. absurd (true≢false (sym t ∙ e)), λ h. absurd (less_not_same (λ k. neg_ℤ (start x k)) x.beta (start y) (neg_ℤ y.beta) h m))
+told Greater x y b gx gy m e = (λ t. absurd (true≢false (sym t ∙ e)), λ h. absurd (less_not_back (λ k. neg_ℤ (start x k)) x.beta (start y) (neg_ℤ y.beta) gx gy h m))
 
 pub returns : goal.returns
-returns c =
-    let a = c.args.rise.now.alpha in
-    let d = c.args.fall.now.beta in
-    let fa : FitsSigned w128 c.args.rise.now.alpha = fits_signed_from_abs w128 _ c.requires.rise_fits.0 in
-    let fb : FitsSigned w128 c.args.rise.now.beta = fits_signed_from_abs w128 _ c.requires.rise_fits.1 in
-    let fc : FitsSigned w128 c.args.fall.now.alpha = fits_signed_from_abs w128 _ c.requires.fall_fits.0 in
-    let fd : FitsSigned w128 c.args.fall.now.beta = fits_signed_from_abs w128 _ c.requires.fall_fits.1 in
-    let na : FitsSigned w128 (pos 0 -ℤ c.args.rise.now.alpha) = neg_signed c.args.rise.now.alpha c.requires.rise_fits.0 in
-    let nd : FitsSigned w128 (pos 0 -ℤ c.args.fall.now.beta) = neg_signed c.args.fall.now.beta c.requires.fall_fits.1 in
-    let m = rw (is_neg c.args.rise.now.alpha, is_neg c.args.fall.now.beta) at (simp to_z-of_z at c.compare.ensures) in
-    told c.compare.result (neg_ℤ a *ℤ neg_ℤ d) (c.args.fall.now.alpha *ℤ c.args.rise.now.beta) c.is_lt.result m c.is_lt.ensures
+returns c = told c.compare_zeros.result c.args.rise.now c.args.fall.now c.is_lt.result c.requires.rises c.requires.falls c.compare_zeros.ensures c.is_lt.ensures
