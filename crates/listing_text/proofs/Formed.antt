@@ -27,14 +27,6 @@ use Rattle.listing_text.proofs.ListingBack.{at_seam}
 
 -- ---- the file
 
-header_is : (line : ℕ) (ws : List Text) (v : Version) → header_line line ws ≡ Ok v → v ≡ version1
-unfolding header_line
-header_is line ws v e =
-    let a = bind_ok (word (codes "mixedcells") Header line ws) (λ one. word (codes "1") Header line one >>= λ rest. nothing_more Header line rest >>= λ ended. Ok version1) v e in
-    let b = bind_ok (word (codes "1") Header line a.0) (λ rest. nothing_more Header line rest >>= λ ended. Ok version1) v a.2 in
-    let c = bind_ok (nothing_more Header line b.0) (λ ended. Ok version1) v b.2 in
-    sym (ok_is version1 v c.2)
-
 abbrev file_of : Version → ℕ → List (List FilePoint) → Option (List (List ℤ)) → File
 file_of version n points starts = record { version = version; dimension = n; supports = points; starts = starts }
 
@@ -45,13 +37,10 @@ problem_valid end rows x e =
     let b = bind_ok (next_line dim_line end a.0.1) (λ n. supports n.0 end n.1 >>= λ points. ending n.0 end points.1 >>= λ starts. Ok (file_of a.0.0 n.0 points.0 starts.0, starts.1)) x a.2 in
     let c = bind_ok (supports b.0.0 end b.0.1) (λ points. ending b.0.0 end points.1 >>= λ starts. Ok (file_of a.0.0 b.0.0 points.0 starts.0, starts.1)) x b.2 in
     let d = bind_ok (ending b.0.0 end c.0.1) (λ starts. Ok (file_of a.0.0 b.0.0 c.0.0 starts.0, starts.1)) x c.2 in
-    let h = next_line_ok header_line end rows a.0 a.1 in
-    let version = header_is h.0 h.1 a.0.0 h.2 in
     let dim = dim_within end a.0.1 b.0 b.1 in
-    let valid = file_within b.0.0 c.0.0 d.0.0 dim (supports_within b.0.0 end b.0.1 c.0 c.1) (ending_within b.0.0 end c.0.1 d.0 dim.0 d.1) in
+    let valid = file_within a.0.0 b.0.0 c.0.0 d.0.0 dim (supports_within b.0.0 end b.0.1 c.0 c.1) (ending_within b.0.0 end c.0.1 d.0 dim.0 d.1) in
     let made : File × List Row = (file_of a.0.0 b.0.0 c.0.0 d.0.0, d.0.1) in
-    subst (λ (y : File × List Row). IsValidFile y.0) (ok_is made x d.2)
-    (subst (λ (v : Version). IsValidFile (file_of v b.0.0 c.0.0 d.0.0)) (sym version) valid)
+    subst (λ (y : File × List Row). IsValidFile y.0) (ok_is made x d.2) valid
 
 -- a file that some bytes mean is valid
 pub meant_valid : (bytes : List ℕ) (file : File) → problem_of bytes ≡ Ok file → IsValidFile file

@@ -5,12 +5,13 @@ use Rattle.std.specs.Int.{w128}
 use Rattle.std.specs.Fmt.{signed_decimal}
 use Rattle.std.proofs.lemmas.Int.{ints}
 use Rattle.int_vectors.specs.Vectors.{Each}
+use Rattle.cayley.specs.Problems.{Version, version1, version2}
 use Rattle.cayley.specs.Files.{File, FilePoint}
 use Rattle.cayley.specs.Valid.{IsCoordinate, IsStart, IsWithinFile, AreDistinct, IsValidFile}
 use Rattle.line_text.specs.Lines.{lines_of, end_line_of}
 use Rattle.support_text.specs.Words.{Text, words}
 use Rattle.support_text.specs.ProblemText.{problem_at, no_line, problem_of}
-use Rattle.support_text.specs.Writing.{point_words, support_lines, start_words, start_lines, problem_lines, problem_text}
+use Rattle.support_text.specs.Writing.{point_words, support_lines, start_words, start_lines, version_text, problem_lines, problem_text}
 use Rattle.support_text.proofs.Kept.{KeepsEach, IsNewPoint}
 use Rattle.support_text.proofs.Distinct.{IsNew, new_from}
 use Rattle.support_text.proofs.ValidFiles.{IsReadSupport, AreStarts}
@@ -63,11 +64,14 @@ plain_supports : (ss : List (List FilePoint)) → Each ss (λ s. (1 ≤ length s
 plain_supports [] h k = tt
 plain_supports (s ∷ ss) h k = ((h.0.1, k.0), plain_supports ss h.1 k.1)
 
+version_is_word : (v : Version) → IsWord (version_text v)
+version_is_word version1 = plain_word 49 [] refl refl
+version_is_word version2 = plain_word 50 [] refl refl
+
 pub file_lines : (file : File) → IsValidFile file → Each (problem_lines file) IsLine
 unfolding problem_lines
 file_lines file valid =
     let header : IsWord (codes "mixedcells") = plain_word 109 (105 ∷ 120 ∷ 101 ∷ 100 ∷ 99 ∷ 101 ∷ 108 ∷ 108 ∷ 115 ∷ []) refl refl in
-    let one : IsWord (codes "1") = plain_word 49 [] refl refl in
     let dim : IsWord (codes "dim") = plain_word 100 (105 ∷ 109 ∷ []) refl refl in
     let last : IsWord (codes "end") = plain_word 101 (110 ∷ 100 ∷ []) refl refl in
     let size = count_word file.dimension 16 valid.shape.dimension.1 (lit< tt) in
@@ -75,7 +79,7 @@ file_lines file valid =
     let starts = starts_are_lines file.starts valid.starts in
     let body = each-append IsLine (flat_map support_lines file.supports ++ start_lines file.starts) ((codes "end" ∷ []) ∷ [])
     (each-append IsLine (flat_map support_lines file.supports) (start_lines file.starts) supports starts) ((omega arith, (last, tt)), tt) in
-    ((omega arith, (header, (one, tt))), ((omega arith, (dim, (size, tt))), body))
+    ((omega arith, (header, (version_is_word file.version, tt))), ((omega arith, (dim, (size, tt))), body))
 
 -- ---- a valid file is one that is read
 
@@ -99,7 +103,6 @@ read_starts n (Some l) h k = (h.0, both_each (λ (s : List ℤ). length s ≡ n 
 
 pub valid_is_read : (file : File) → IsValidFile file → IsReadFile file
 valid_is_read file valid = record {
-  version = valid.version;
   dimension = valid.shape.dimension;
   count = valid.shape.supports;
   supports = read_supports file.dimension file.supports valid.shape.counts valid.shape.points valid.limits valid.distinct;

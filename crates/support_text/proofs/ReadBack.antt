@@ -6,7 +6,7 @@ use Rattle.std.specs.Fmt.{signed_decimal}
 use Rattle.std.proofs.lemmas.Slice.Eq.{bytes_eq-Decides}
 use Rattle.std.proofs.lemmas.Int.{ints}
 use Rattle.int_vectors.specs.Vectors.{Each}
-use Rattle.cayley.specs.Problems.{Version, version1}
+use Rattle.cayley.specs.Problems.{Version, version1, version2}
 use Rattle.cayley.specs.Files.{File, FilePoint}
 use Rattle.cayley.specs.Valid.{IsCoordinate, IsHeight}
 use Rattle.line_text.specs.Lines.{Row}
@@ -14,8 +14,8 @@ use Rattle.support_text.specs.declared.fault.Kind.{Kind}
 use Rattle.support_text.specs.declared.fault.Kind.TheVariants.{Dim, Count, Number, Range, Start}
 use Rattle.support_text.specs.Faults.{Reading, series}
 use Rattle.support_text.specs.Words.{Text, words, word, number, nothing_more, next_line}
-use Rattle.support_text.specs.ProblemText.{header_line, counting_line, dim_line, count_line, coordinates, point_line, point_at, support, support_at, supports, start_height, start_heights, start_line, start_at, end_line, opening, starts_and_end, end_alone, ending_of, ending, problem_at}
-use Rattle.support_text.specs.Writing.{point_words, support_lines, start_words, start_lines, problem_lines}
+use Rattle.support_text.specs.ProblemText.{version_word, header_line, counting_line, dim_line, count_line, coordinates, point_line, point_at, support, support_at, supports, start_height, start_heights, start_line, start_at, end_line, opening, starts_and_end, end_alone, ending_of, ending, problem_at}
+use Rattle.support_text.specs.Writing.{point_words, support_lines, start_words, start_lines, version_text, problem_lines}
 use Rattle.support_text.proofs.Numbers.{IsWithin, number_in_text}
 use Rattle.support_text.proofs.Series.{Chain, ReadsEach, series_again}
 use Rattle.support_text.proofs.Kept.{KeepsEach, IsNewPoint}
@@ -233,13 +233,13 @@ ending_again n end (Some (first ∷ starts)) rows rest some h lines =
 
 -- ---- files
 
-header_again : ReadsWords header_line (codes "mixedcells" ∷ codes "1" ∷ []) version1
-unfolding header_line word nothing_more
-header_again line = refl
+header_again : (v : Version) → ReadsWords header_line (codes "mixedcells" ∷ version_text v ∷ []) v
+unfolding header_line version_word word nothing_more
+header_again version1 line = refl
+header_again version2 line = refl
 
 -- a valid file's parts, as they are read
 pub record IsReadFile (file : File) : Type 0 where
-  pub version : file.version ≡ version1
   pub dimension : (1 ≤ file.dimension) × (file.dimension ≤ 16)
   pub count : length file.supports ≡ file.dimension
   pub supports : Each file.supports (IsReadSupport file.dimension)
@@ -249,12 +249,11 @@ pub file_again : (end : ℕ) (file : File) (rows rest : List Row) → IsReadFile
 unfolding problem_at problem_lines
 file_again end file rows rest read lines =
     let n = file.dimension in
-    let head = next_again header_line (codes "mixedcells" ∷ codes "1" ∷ []) version1 end rows lines.1 header_again (lines.0, lines.1, lines.2, lines.3, refl) in
+    let head = next_again header_line (codes "mixedcells" ∷ version_text file.version ∷ []) file.version end rows lines.1 (header_again file.version) (lines.0, lines.1, lines.2, lines.3, refl) in
     let second = lines.4 in
     let dim = next_again dim_line (codes "dim" ∷ decimal n ∷ []) n end lines.1 second.1 (counting_again (codes "dim") 16 Dim n read.dimension.0 read.dimension.1 (lit< tt)) (second.0, second.1, second.2, second.3, refl) in
     let regrouped = subst (λ (l : List (List Text)). AreLines l second.1 rest) (append_assoc (flat_map support_lines file.supports) (start_lines file.starts) ((codes "end" ∷ []) ∷ [])) second.4 in
     let parts = lines_split (flat_map support_lines file.supports) (start_lines file.starts ++ (codes "end" ∷ []) ∷ []) second.1 rest regrouped in
     let points = supports_again n end file.supports second.1 parts.0 read.count read.supports parts.1 in
     let last = ending_again n end file.starts parts.0 rest read.dimension.0 read.starts parts.2 in
-    let same : version1 ≡ file.version = sym read.version in
-    rw (head, dim, points, last) (ap (λ (v : Version). Ok (record { version = v; dimension = n; supports = file.supports; starts = file.starts }, rest)) same)
+    rw (head, dim, points, last) refl

@@ -2,7 +2,7 @@
 use Rattle.std.proofs.Common.{◌≡◌, ℕ, ◌-◌, ◌≤◌, ℤ, List, [], ◌∷◌, map, length, Option, Some, None, Ok, refl, sym, ap, subst, arith}
 use Rattle.std.specs.Prelude.{MatchOption, codes}
 use Rattle.int_vectors.specs.Vectors.{Each}
-use Rattle.cayley.specs.Problems.{version1}
+use Rattle.cayley.specs.Problems.{Version}
 use Rattle.cayley.specs.Files.{FilePoint}
 use Rattle.cayley.specs.Valid.{IsStart, IsWithinFile, AreDistinct, IsValidFile}
 use Rattle.line_text.specs.Lines.{Row}
@@ -93,10 +93,9 @@ starts_limits : (n : ℕ) (starts : Option (List (List ℤ))) → AreStarts n st
 starts_limits n None h = tt
 starts_limits n (Some l) h = each_map (IsStartLine n) (λ s. Each s IsStart) l (λ s p. p.1) h.1
 
-pub file_within : (n : ℕ) (supports : List (List FilePoint)) (starts : Option (List (List ℤ))) → (1 ≤ n) × (n ≤ 16) → (length supports ≡ n) × Each supports (IsReadSupport n) → AreStarts n starts
-    → IsValidFile (record { version = version1; dimension = n; supports = supports; starts = starts })
-file_within n supports starts dim s t = record {
-  version = refl;
+pub file_within : (v : Version) (n : ℕ) (supports : List (List FilePoint)) (starts : Option (List (List ℤ))) → (1 ≤ n) × (n ≤ 16) → (length supports ≡ n) × Each supports (IsReadSupport n) → AreStarts n starts
+    → IsValidFile (record { version = v; dimension = n; supports = supports; starts = starts })
+file_within v n supports starts dim s t = record {
   shape = record {
     dimension = dim;
     supports = s.0;

@@ -6,7 +6,7 @@ use Rattle.std.specs.List.{join_with_byte}
 use Rattle.std.specs.Fmt.{signed_decimal}
 use Rattle.cayley.specs.Files.{File, FilePoint}
 use Rattle.support_text.specs.Words.{Text, text_of}
-use Rattle.support_text.specs.Writing.{point_words, support_lines, start_words, start_lines, problem_lines, problem_text}
+use Rattle.support_text.specs.Writing.{point_words, support_lines, start_words, start_lines, version_text, problem_lines, problem_text}
 
 -- the text of two lists of lines, of a list of lists, and of a line for each element
 pub text_append : (xs ys : List (List Text)) → text_of (xs ++ ys) ≡ text_of xs ++ text_of ys
@@ -99,12 +99,12 @@ starts_written f o i ss starts b a =
 
 -- the text of a file
 pub problem_written : {A : Type 0} (f : A → List FilePoint) (o i j k l m : List ℕ) (ss : List A) (file : File) → map f ss ≡ file.supports
-    → i ≡ o ++ codes "mixedcells 1\n" → j ≡ i ++ (codes "dim" ++ (codes " " ++ (signed_decimal (pos file.dimension) ++ codes "\n")))
+    → i ≡ o ++ (codes "mixedcells " ++ (version_text file.version ++ codes "\n")) → j ≡ i ++ (codes "dim" ++ (codes " " ++ (signed_decimal (pos file.dimension) ++ codes "\n")))
     → k ≡ j ++ flat_map (λ s. text_of (support_lines (f s))) ss → l ≡ k ++ text_of (start_lines file.starts) → m ≡ l ++ codes "end\n"
     → m ≡ o ++ problem_text file
 unfolding problem_lines
 problem_written f o i j k l m ss file e a b c d h =
-    let head = codes "mixedcells 1\n" in
+    let head = codes "mixedcells " ++ (version_text file.version ++ codes "\n") in
     let dim = codes "dim" ++ (codes " " ++ (signed_decimal (pos file.dimension) ++ codes "\n")) in
     let supports = flat_map (λ s. text_of (support_lines (f s))) ss in
     let starts = text_of (start_lines file.starts) in

@@ -4,7 +4,7 @@ use Rattle.std.specs.List.{list_any}
 use Rattle.std.specs.Ordering.{int_eq}
 use Rattle.std.specs.Cmp.Lexicographic.{pointwise}
 use Rattle.line_text.specs.Lines.{Row, lines_of, end_line_of}
-use Rattle.cayley.specs.Problems.{Version, version1}
+use Rattle.cayley.specs.Problems.{Version, version1, version2}
 use Rattle.cayley.specs.Files.{File, FilePoint}
 use Rattle.support_text.specs.declared.fault.Kind.{Kind}
 use Rattle.support_text.specs.declared.fault.Kind.TheVariants.{Header, Dim, Count, Number, Range, Repeated, Start, Missing, Extra}
@@ -13,13 +13,19 @@ use Rattle.support_text.specs.declared.opening.Opening.TheVariants.{End as Opens
 use Rattle.support_text.specs.Faults.{Reading, ◌>>=◌, fault, series}
 use Rattle.support_text.specs.Words.{Text, words, word, number, nothing_more, next_line}
 
--- `mixedcells 1`
+-- `1` or `2`
+unfoldable pub version_word : ℕ → List Text → Reading (Version × List Text)
+version_word line [] = Err (fault line Header)
+version_word line (w ∷ ws) =
+    if bytes_eq w (codes "1") then Ok (version1, ws) else (if bytes_eq w (codes "2") then Ok (version2, ws) else Err (fault line Header))
+
+-- `mixedcells 1` or `mixedcells 2`
 unfoldable pub header_line : ℕ → List Text → Reading Version
 header_line line ws = do
-  one ← word (codes "mixedcells") Header line ws
-  rest ← word (codes "1") Header line one
-  ended ← nothing_more Header line rest
-  Ok version1
+  rest ← word (codes "mixedcells") Header line ws
+  version ← version_word line rest
+  ended ← nothing_more Header line version.1
+  Ok version.0
 
 -- a word and one number from 1 to a limit
 unfoldable pub counting_line : Text → ℤ → Kind → ℕ → List Text → Reading ℕ

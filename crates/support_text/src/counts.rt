@@ -1,34 +1,55 @@
 // The lines that hold a word and a count, and the header.
 ghost use Rattle.std.specs.Prelude.{◌≡◌, ◌≤◌, ◌≢◌, pos, ◌≤ℤ◌, IfOk, IfErr};
-ghost use Rattle.cayley.specs.Problems.{version1};
+ghost use Rattle.cayley.specs.Stored.{version_of};
 ghost use Rattle.support_text.specs.Faults.{Gives};
 ghost use Rattle.support_text.specs.Words as spec;
 ghost use Rattle.support_text.specs.Words.{words};
 ghost use Rattle.support_text.specs.ProblemText as format;
 
-use crate::fault::{Kind, TextFault};
+use crate::fault::{Kind, TextFault, fault_at};
 use crate::lines::{next_line, nothing_more, number, word};
+use cayley::Version;
 use line_text::{Line, Lines};
 
 const DIMENSIONS: i128 = 16;
 
 const POINTS: i128 = 1_000;
 
-// `mixedcells 1`
+// `1` or `2`
+#[tactic(auto, unfolding(crate::specs::ProblemText::version_word))]
+fn version_word(line: &mut Line) -> Result<Version, TextFault>
+    ensures reading { Gives (λ version. (version_of version, words line.new)) result (format.version_word line.old.number (words line.old)) }
+    ensures number { line.new.number ≡ line.old.number }
+    ensures memory { IfErr result (λ e. e ≢ TextFault.OutOfMemory) }
+{
+    let Some(token) = line.next_token() else {
+        return Err(fault_at(line.number(), Kind::Header));
+    };
+    if token.text == b"1" {
+        return Ok(Version::First);
+    }
+    if token.text == b"2" {
+        return Ok(Version::Second);
+    }
+    Err(fault_at(line.number(), Kind::Header))
+}
+
+// `mixedcells 1` or `mixedcells 2`
 #[tactic(auto, unfolding(crate::specs::ProblemText::header_line))]
-fn header_line(line: &mut Line) -> Result<(), TextFault>
-    ensures reading { Gives (λ done. version1) result (format.header_line line.old.number (words line.old)) }
+fn header_line(line: &mut Line) -> Result<Version, TextFault>
+    ensures reading { Gives version_of result (format.header_line line.old.number (words line.old)) }
     ensures memory { IfErr result (λ e. e ≢ TextFault.OutOfMemory) }
 {
     word(line, b"mixedcells", Kind::Header)?;
-    word(line, b"1", Kind::Header)?;
-    nothing_more(line, Kind::Header)
+    let version = version_word(line)?;
+    nothing_more(line, Kind::Header)?;
+    Ok(version)
 }
 
-/// The first line.
+/// The first line, which tells the version.
 #[tactic(auto, unfolding(crate::specs::Words::next_line))]
-pub fn header(lines: &mut Lines) -> Result<(), TextFault>
-    ensures reading { Gives (λ done. (version1, lines.new.rows)) result (spec.next_line format.header_line lines.old.end_line lines.old.rows) }
+pub fn header(lines: &mut Lines) -> Result<Version, TextFault>
+    ensures reading { Gives (λ version. (version_of version, lines.new.rows)) result (spec.next_line format.header_line lines.old.end_line lines.old.rows) }
     ensures end_line { lines.new.end_line ≡ lines.old.end_line }
     ensures memory { IfErr result (λ e. e ≢ TextFault.OutOfMemory) }
 {

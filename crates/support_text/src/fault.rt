@@ -7,7 +7,7 @@ use thiserror::Error;
 /// What is wrong with a line of a problem file.
 #[derive(Clone, Copy, Debug, PartialEq, Eq)]
 pub enum Kind {
-    /// The first line isn't `mixedcells 1`.
+    /// The first line isn't `mixedcells 1` or `mixedcells 2`.
     Header,
     /// The line isn't `dim` with one number from 1 to 16.
     Dim,

@@ -19,11 +19,11 @@ pub fn read_problem_lines(alloc: Global, lines: &mut Lines) -> Result<LiftFile, 
     ensures reading { Gives (λ file. (file, lines.new.rows)) result (problem_at lines.old.end_line lines.old.rows) }
     ensures end_line { lines.new.end_line ≡ lines.old.end_line }
 {
-    header(lines)?;
+    let version = header(lines)?;
     let n = dim(lines)?;
     let supports = supports(alloc, n, lines)?;
     let starts = ending(alloc, n, lines)?;
-    Ok(LiftFile::from_parts(n, supports, starts))
+    Ok(LiftFile::from_parts(version, n, supports, starts))
 }
 
 /// No line with words may be left.

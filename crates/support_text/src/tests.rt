@@ -14,9 +14,13 @@ fn judged(alloc: Global, text: &[u8]) -> Result<(u64, u8), Fail> {
 
 #[test]
 fn heads_and_counts(rt: HostRuntime) -> Result<(), Fail> {
-    let table: [(&[u8], (u64, u8)); 6] = [
+    let table: [(&[u8], (u64, u8)); 10] = [
         (b"", (1, 8)),
-        (b"mixedcells 2\n", (1, 1)),
+        (b"mixedcells\n", (1, 1)),
+        (b"mixedcells 3\n", (1, 1)),
+        (b"mixedcells 02\n", (1, 1)),
+        (b"mixedcells 2 1\n", (1, 1)),
+        (b"mixedcells 2\n", (2, 8)),
         (b"mixedcells 1\ndim 17\n", (2, 2)),
         (b"mixedcells 1\ndim 16\n", (3, 8)),
         (b"mixedcells 1\ndim 1\nsupport 0\n", (3, 3)),
@@ -219,5 +223,8 @@ fn odd_spelling_is_rewritten(rt: HostRuntime) -> Result<(), Fail> {
         b"mixedcells 1\ndim 2\nsupport 1\n-3 2 : 3\nsupport 2\n0 0 : 5\n1 0 : -40\nstart 100\nstart 7\nend\n".as_slice();
     let found = rewritten(rt.alloc(), starts)?;
     assert_eq!(rt; found.as_slice(), starts);
+    let perturbed = b"mixedcells 2\ndim 1\nsupport 2\n0 : 7\n1 : 7\nend\n".as_slice();
+    let found = rewritten(rt.alloc(), perturbed)?;
+    assert_eq!(rt; found.as_slice(), perturbed);
     Ok(())
 }

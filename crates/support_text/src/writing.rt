@@ -1,12 +1,12 @@
 // The canonical text of a file, written.
 ghost use Rattle.std.specs.Prelude.{◌≡◌, ◌++◌, ◌*ℤ◌, pos, ℕ, List, [], ◌∷◌, codes, length, map, flat_map, Ok, OnOk, OnErr};
 ghost use Rattle.std.specs.Fmt.{signed_decimal};
-ghost use Rattle.cayley.specs.Stored.{file_point};
+ghost use Rattle.cayley.specs.Stored.{file_point, version_of};
 ghost use Rattle.support_text.specs.Words.{text_of};
 ghost use Rattle.support_text.specs.ProblemText.{problem_of};
-ghost use Rattle.support_text.specs.Writing.{point_words, support_lines, start_words, start_lines, problem_text};
+ghost use Rattle.support_text.specs.Writing.{point_words, support_lines, start_words, start_lines, version_text, problem_text};
 
-use cayley::{FilePoint, LiftFile};
+use cayley::{FilePoint, LiftFile, Version};
 use line_text::write_int;
 use wide_int::OutOfMemory;
 
@@ -124,11 +124,21 @@ fn write_given_starts(out: &mut Vec<u8>, file: &LiftFile) -> Result<(), OutOfMem
     }
 }
 
+// Appends the first line of a file of this version.
+fn write_header(out: &mut Vec<u8>, version: Version) -> Result<(), OutOfMemory>
+    ensures { OnOk result (out.new.items ≡ out.old.items ++ (codes "mixedcells " ++ (version_text (version_of version) ++ codes "\n"))) }
+{
+    match version {
+        Version::First => write_bytes(out, b"mixedcells 1\n"),
+        Version::Second => write_bytes(out, b"mixedcells 2\n"),
+    }
+}
+
 /// Appends the canonical text of a file; a refusal may leave a part of it in `out`.
 pub fn append_problem(file: &LiftFile, out: &mut Vec<u8>) -> Result<(), OutOfMemory>
     ensures { OnOk result (out.new.items ≡ out.old.items ++ problem_text file.now) }
 {
-    write_bytes(out, b"mixedcells 1\n")?;
+    write_header(out, file.form())?;
     write_count(out, b"dim", file.dim())?;
     write_supports(out, file.supports())?;
     write_given_starts(out, file)?;
