@@ -9,3 +9,9 @@ pub mod Crossings
 pub mod Walls
 pub mod LifeLaws
 pub mod Targets
+pub mod ShownTies
+pub mod StillGaps
+pub mod Still
+pub mod Spots
+pub mod NamedTies
+pub mod LongerTimes

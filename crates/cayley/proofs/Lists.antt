@@ -3,3 +3,4 @@ pub mod Each
 pub mod Pairs
 pub mod Supports
 pub mod Reaching
+pub mod KnownPoints

@@ -6,3 +6,4 @@ pub mod Soon
 pub mod Mirror
 pub mod Times
 pub mod Lined
+pub mod Spans

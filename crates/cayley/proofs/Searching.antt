@@ -8,3 +8,4 @@ pub mod Shares
 pub mod Steps
 pub mod FilePoints
 pub mod ComputedLaw
+pub mod Strangers

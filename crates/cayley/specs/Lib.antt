@@ -24,3 +24,8 @@ pub mod Shapes
 pub mod Resting
 pub mod Reaches
 pub mod Ranks
+pub mod StoredTies
+pub mod StillLaws
+pub mod Strangers
+pub mod NamedTies
+pub mod LongerTimes

@@ -4,6 +4,11 @@ ghost use Rattle.cayley.specs.Laws.{OneNormal, AliveByAnyNormal, OneLowestNormal
 ghost use Rattle.cayley.specs.FlipLaws.{FlipLaw, ChildrenLaw, FlipRule, PredecessorRule};
 ghost use Rattle.cayley.specs.LifeLaws.{LifeLaw, OnceLaw, ParentLaw, ChildLaw, TieFreeLaw, ShareLaw, OneShare, TargetLaw};
 ghost use Rattle.cayley.specs.Computed.{AllComputed, ChainLaw};
+ghost use Rattle.cayley.specs.StoredTies.{ShownTieLaw};
+ghost use Rattle.cayley.specs.StillLaws.{StillLaw, MixedLaw};
+ghost use Rattle.cayley.specs.Strangers.{StrangerLaw};
+ghost use Rattle.cayley.specs.NamedTies.{NamedIsShownLaw, NamedTieLaw, OneNamedTieLaw};
+ghost use Rattle.cayley.specs.LongerTimes.{LongerTimesLaw};
 
 /// An independent cell has exactly one normal at every time.
 pub fn one_normal()
@@ -103,4 +108,44 @@ pub fn one_share()
 /// In a still problem a mixed cell of the target is alive at all late times (in outline after Huber and Sturmfels 1995).
 pub fn target_law()
     ensures { TargetLaw }
+{}
+
+/// What is shown as a tie by a time and one or two places is one.
+pub fn shown_tie_law()
+    ensures { ShownTieLaw }
+{}
+
+/// A cell of points that rest is alive at every time or at none.
+pub fn still_law()
+    ensures { StillLaw }
+{}
+
+/// Whether a cell is a mixed cell of the target is seen at any time.
+pub fn mixed_law()
+    ensures { MixedLaw }
+{}
+
+/// A branch whose cell isn't of the problem or doesn't begin where it says has the empty share and the size 0.
+pub fn stranger_law()
+    ensures { StrangerLaw }
+{}
+
+/// The tie that is named for a cell is shown by its time and places.
+pub fn named_is_shown_law()
+    ensures { NamedIsShownLaw }
+{}
+
+/// A cell has a named tie exactly where it has a tie at some time.
+pub fn named_tie_law()
+    ensures { NamedTieLaw }
+{}
+
+/// All named ties of a cell have the same time and the same places.
+pub fn one_named_tie_law()
+    ensures { OneNamedTieLaw }
+{}
+
+/// Where a cell begins or ends, the time has no entry other than 0 past the greatest rank.
+pub fn longer_times_law()
+    ensures { LongerTimesLaw }
 {}
