@@ -1,4 +1,5 @@
 use Rattle.std.proofs.Common.{◌≡◌, ◌∙◌, map, sym, ap, subst}
+use Rattle.std.proofs.lemmas.Result.{err_from_is_err_and}
 use Rattle.cayley.specs.Valid.{IsValidProblem}
 use Rattle.cayley.specs.Files.{moved_supports}
 use Rattle.cayley.proofs.Lists.Each.{all_each}
@@ -43,3 +44,8 @@ returns c =
     (c.in_ok-supports.ensures.files ∙ counts_of (λ s. s.items) c.supports-points.result.now c.args.file.now.supports is)
     (c.in_ok-supports.ensures.points ∙ ap (λ ss. moved_supports ss second) is) in
     (h, c.in_ok-problem.ensures ∙ e)
+
+pub returns-in_err-check_second : goal.returns-in_err-check_second
+returns-in_err-check_second c =
+    let p = err_from_is_err_and c.from_residual.result c.from_residual.ensures.1 in
+    rw (p.1, p.2) (c.in_err-check_second.ensures c.args.file.now c.supports-points.ensures.value)
