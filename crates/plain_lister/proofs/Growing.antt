@@ -13,10 +13,12 @@ use Rattle.cayley.proofs.Searching.Listing.{Has}
 use Rattle.cayley.proofs.Searching.Members.{has_contains, contains_has}
 use Rattle.plain_lister.specs.Choices.{HasTooMany, HavePairs}
 use Rattle.plain_lister.specs.Lists.{HasNoCorners, HasLowestNormal, IsFirstUnfit, IsJudged, AllFit, IsPlainFault}
-use Rattle.plain_lister.specs.Order.{IsChoice, IsLast, IsNext, firsts}
+use Rattle.plain_lister.specs.Order.{IsChoice, IsLast, IsNext, firsts, left_after}
+use Rattle.plain_lister.specs.Wheels.{Show}
+use Rattle.plain_lister.specs.declared.wheels.Wheel.{Wheel}
 use Rattle.plain_lister.specs.declared.faults.PlainFault.{PlainFault}
 use Rattle.plain_lister.specs.declared.faults.PlainFault.TheVariants.{TooMany, Overflow, OutOfMemory}
-use Rattle.plain_lister.specs.Progress.{cells_of, IsDone, Before, UpTo, Tried, IsUnfitAt, IsSearchFault}
+use Rattle.plain_lister.specs.Progress.{cells_of, IsDone, Before, UpTo, Tried, IsUnfitAt, IsSearchFault, steps_left}
 use Rattle.cone_walls.specs.Workings.{FitsWallWorking}
 use Rattle.plain_lister.proofs.Odometer.{first_is, have_pairs}
 use Rattle.plain_lister.proofs.Plain.{own_points, counts_of}
@@ -215,6 +217,18 @@ gone_through p true pairs found n d = absurd (n yes)
   where
     yes : IsTrue true
     yes = search rules
+
+pub advanced : (p : Problem) → IsValidProblem p → HasNoCorners p → (counts : List ℕ) → counts ≡ map (λ (s : List Point). length s) p.supports → (going : Bool) (pairs next : Cell) (wheels : List Wheel) (found : List FoundCell)
+    → (IsTrue going → Show counts wheels next) → (IsTrue going → IsNext counts pairs next × IsChoice counts next × left_after counts next < left_after counts pairs) → (¬ (IsTrue going) → IsLast counts pairs)
+    → IsDone p (UpTo pairs) found
+    → (IsTrue going → IsChoice counts next × Show counts wheels next) × IsDone p (Tried going next) found × (steps_left going counts next < left_after counts pairs + 1)
+advanced p valid alone counts e true pairs next wheels found shown more last d =
+    let t : IsTrue true = search rules in
+    let n = more t in
+    let less = n.2 in
+    ((λ u. (n.1, shown u)), turn_on p valid alone counts e pairs next found n.0 d, omega (arith, less))
+advanced p valid alone counts e false pairs next wheels found shown more last d =
+    ((λ u. absurd (no_going u)), turn_off p valid alone counts e pairs found (last no_going) d, omega arith)
 
 -- the answers of the whole
 pub nothing_done : (p : Problem) → IsValidProblem p → HasNoCorners p → (counts : List ℕ) → counts ≡ map (λ (s : List Point). length s) p.supports → ¬ (HavePairs counts) → (found : List FoundCell) → found ≡ []

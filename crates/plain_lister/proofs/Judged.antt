@@ -1,10 +1,11 @@
 -- a cell whose points rest is alive at all times or at none
-use Rattle.std.proofs.Common.{◌≡◌, List, refl, sym, subst}
+use Rattle.std.proofs.Common.{◌≡◌, ◌∙◌, ℤ, List, Ok, Err, refl, sym, subst}
 use Rattle.std.proofs.Math.IntN.{pos}
 use Rattle.std.specs.Prelude.{◌<ℤ◌}
 use Rattle.cayley.specs.Times.{Time, time_zero}
 use Rattle.cayley.specs.Problems.{Problem, IsStill}
-use Rattle.cayley.specs.Cells.{Cell}
+use Rattle.cayley.specs.Cells.{Cell, IsOf, IsIndependent}
+use Rattle.cayley.specs.Rows.{edge_rows}
 use Rattle.cayley.specs.Mixed.{IsAlive, IsMixedCell}
 use Rattle.cayley.specs.Valid.{IsValidProblem}
 use Rattle.cayley.proofs.Life.Still.{mixed_law}
@@ -19,6 +20,8 @@ use Rattle.crossing.specs.declared.exit.Exit.TheVariants as exit
 use Rattle.crossing.specs.Entries.{IsEntry}
 use Rattle.crossing.specs.Exits.{IsExit}
 use Rattle.cone_walls.specs.Lives.{LivesBetween}
+use Rattle.cone_walls.specs.Workings.{FitsWallWorking}
+use Rattle.reduced_rows.specs.Steps.{elimination, FitsElimination}
 use Rattle.plain_lister.specs.Lists.{HasNoCorners}
 use Rattle.plain_lister.proofs.Plain.{own_points}
 
@@ -54,3 +57,14 @@ module _ (p : Problem) (valid : IsValidProblem p) (still : IsStill p) (alone : H
   no_exit e (exit.Tied u first second) i j m =
       let t = time_of u j.1.0.2 in
       absurd (never_before t ((lives e (exit.Tied u first second) i j t).0 (alive_at m t)).1)
+
+-- a dependent cell's working ends with its kernel, and it isn't mixed
+pub dependent_cell : (p : Problem) (cell : Cell) (kernel : List ℤ) → IsValidProblem p → HasNoCorners p → FitsElimination p.dimension (edge_rows p cell) → elimination p.dimension (edge_rows p cell) ≡ Err kernel
+    → ¬ (IsIndependent p cell) → FitsWallWorking p cell × ¬ (IsMixedCell p cell)
+dependent_cell p cell kernel valid alone fits ended not = (
+  (fits, λ made e. absurd (apart made (sym e ∙ ended))),
+  λ m. not (subst (λ q. IsAlive q cell time_zero) (own_points p valid alone) m).1,
+)
+  where
+    apart : (made : List (List ℤ)) → Ok made ≡ Err kernel → ⊥
+    apart made e = cc

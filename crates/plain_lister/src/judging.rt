@@ -49,9 +49,9 @@ pub(crate) fn judge<L: Ledger>(
         Err(CellFault::Overflow) => return Err(FromFault::Overflow),
         Err(CellFault::OutOfMemory) => return Err(FromFault::OutOfMemory),
     };
-    if lasts(entry_of(&walls.lines), exit_of(&walls.lines)) {
-        Ok(Some(in_lowest_terms(walls.normal.p, walls.normal.den)))
-    } else {
-        Ok(None)
+    if !lasts(entry_of(&walls.lines), exit_of(&walls.lines)) {
+        return Ok(None);
     }
+    let normal = walls.normal;
+    Ok(Some(in_lowest_terms(normal.p, normal.den)))
 }
