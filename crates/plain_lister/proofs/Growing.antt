@@ -13,11 +13,13 @@ use Rattle.cayley.proofs.Searching.Listing.{Has}
 use Rattle.cayley.proofs.Searching.Members.{has_contains, contains_has}
 use Rattle.plain_lister.specs.Choices.{HasTooMany, HavePairs}
 use Rattle.plain_lister.specs.Lists.{HasNoCorners, HasLowestNormal, IsFirstUnfit, IsJudged, AllFit, IsPlainFault}
-use Rattle.plain_lister.specs.Order.{IsChoice, IsLast, IsNext, firsts}
+use Rattle.plain_lister.specs.Order.{IsChoice, IsLast, IsNext, firsts, left_after}
+use Rattle.plain_lister.specs.Wheels.{Show}
+use Rattle.plain_lister.specs.declared.wheels.Wheel.{Wheel}
 use Rattle.plain_lister.specs.declared.faults.PlainFault.{PlainFault}
 use Rattle.plain_lister.specs.declared.faults.PlainFault.TheVariants.{TooMany, Overflow, OutOfMemory}
-use Rattle.plain_lister.specs.Progress.{cells_of, IsDone, Before, UpTo, Tried, IsUnfitAt, IsSearchFault}
-use Rattle.plain_lister.specs.Workings.{FitsWorking}
+use Rattle.plain_lister.specs.Progress.{cells_of, IsDone, Before, UpTo, Tried, IsUnfitAt, IsSearchFault, steps_left}
+use Rattle.cone_walls.specs.Workings.{FitsWallWorking}
 use Rattle.plain_lister.proofs.Odometer.{first_is, have_pairs}
 use Rattle.plain_lister.proofs.Plain.{own_points, counts_of}
 
@@ -97,7 +99,7 @@ module _ (p : Problem) where
     fit = λ cell of e. absurd (none cell of e);
   }
 
-  pub done_other : (cell : Cell) (found : List FoundCell) → IsDone p (Before cell) found → FitsWorking p cell → ¬ (IsMixedCell p cell) → IsDone p (UpTo cell) found
+  pub done_other : (cell : Cell) (found : List FoundCell) → IsDone p (Before cell) found → FitsWallWorking p cell → ¬ (IsMixedCell p cell) → IsDone p (UpTo cell) found
   done_other cell found d f n = record {
     list = (
       d.list.0,
@@ -107,10 +109,10 @@ module _ (p : Problem) where
       ),
     );
     lowest = d.lowest;
-    fit = λ other of e. elim e [ inl k ↦ d.fit other of k | inr i ↦ subst (FitsWorking p) (sym i) f ];
+    fit = λ other of e. elim e [ inl k ↦ d.fit other of k | inr i ↦ subst (FitsWallWorking p) (sym i) f ];
   }
 
-  pub done_more : (cell : Cell) (found : List FoundCell) (f : FoundCell) → IsDone p (Before cell) found → FitsWorking p cell → IsMixedCell p cell → f.cell ≡ cell → HasLowestNormal p f
+  pub done_more : (cell : Cell) (found : List FoundCell) (f : FoundCell) → IsDone p (Before cell) found → FitsWallWorking p cell → IsMixedCell p cell → f.cell ≡ cell → HasLowestNormal p f
       → IsDone p (UpTo cell) (found ++ f ∷ [])
   done_more cell found f d w m is low =
       let e = cells-more found f ∙ ap (λ c. cells_of found ++ (c ∷ [])) is in
@@ -129,7 +131,7 @@ module _ (p : Problem) where
           ),
         );
         lowest = each_more (HasLowestNormal p) found f d.lowest low;
-        fit = λ other of g. elim g [ inl k ↦ d.fit other of k | inr i ↦ subst (FitsWorking p) (sym i) w ];
+        fit = λ other of g. elim g [ inl k ↦ d.fit other of k | inr i ↦ subst (FitsWallWorking p) (sym i) w ];
       }
 
 pub mixed_of : (p : Problem) → IsValidProblem p → HasNoCorners p → (cell : Cell) → IsMixedCell p cell → IsOf p cell
@@ -154,24 +156,24 @@ done_first p valid alone =
 pub all_tried : (p : Problem) (found : List FoundCell) → IsDone p (λ other. Unit {0}) found → IsListOf (IsMixedCell p) (cells_of found)
 all_tried p found d = (d.list.0, λ cell. ((λ h. ((d.list.1 cell).0 h).1), (λ h. (d.list.1 cell).1 (tt, h))))
 
-pub first_unfit : (p : Problem) (cell : Cell) (found : List FoundCell) → IsOf p cell → IsDone p (Before cell) found → ¬ (FitsWorking p cell) → IsFirstUnfit p cell
+pub first_unfit : (p : Problem) (cell : Cell) (found : List FoundCell) → IsOf p cell → IsDone p (Before cell) found → ¬ (FitsWallWorking p cell) → IsFirstUnfit p cell
 first_unfit p cell found of d n = (of, n, d.fit)
 
 -- what was judged of a cell, of the same pairs
-pub judged_none : (p : Problem) (cell pairs : Cell) → cell ≡ pairs → (judged : Option Normal) → judged ≡ None → FitsWorking p cell × IsJudged p cell judged → FitsWorking p pairs × ¬ (IsMixedCell p pairs)
-judged_none p cell pairs same None is h = subst (λ c. FitsWorking p c × ¬ (IsMixedCell p c)) same h
+pub judged_none : (p : Problem) (cell pairs : Cell) → cell ≡ pairs → (judged : Option Normal) → judged ≡ None → FitsWallWorking p cell × IsJudged p cell judged → FitsWallWorking p pairs × ¬ (IsMixedCell p pairs)
+judged_none p cell pairs same None is h = subst (λ c. FitsWallWorking p c × ¬ (IsMixedCell p c)) same h
 judged_none p cell pairs same (Some n) is h = absurd (no (sym is))
   where
     no : None ≡ Some n → ⊥
     no e = subst (λ (o : Option Normal). MatchOption o (Unit {0}) (λ k. ⊥)) e tt
 
-pub judged_some : (p : Problem) (cell pairs : Cell) → cell ≡ pairs → (judged : Option Normal) (normal : Normal) → judged ≡ Some normal → FitsWorking p cell × IsJudged p cell judged
-    → FitsWorking p pairs × IsMixedCell p pairs × IsLowestNormal p cell normal.v normal.den
+pub judged_some : (p : Problem) (cell pairs : Cell) → cell ≡ pairs → (judged : Option Normal) (normal : Normal) → judged ≡ Some normal → FitsWallWorking p cell × IsJudged p cell judged
+    → FitsWallWorking p pairs × IsMixedCell p pairs × IsLowestNormal p cell normal.v normal.den
 judged_some p cell pairs same judged normal is h =
-    let k = subst (λ o. FitsWorking p cell × IsJudged p cell o) is h in
-    (subst (FitsWorking p) same k.0, subst (IsMixedCell p) same k.1.0, k.1.1)
+    let k = subst (λ o. FitsWallWorking p cell × IsJudged p cell o) is h in
+    (subst (FitsWallWorking p) same k.0, subst (IsMixedCell p) same k.1.0, k.1.1)
 
-pub kept_cell : {A : Type 0} (p : Problem) (pairs : Cell) (found new : List FoundCell) (f : FoundCell) (r : Result A PlainFault) → IsDone p (Before pairs) found → FitsWorking p pairs → IsMixedCell p pairs → f.cell ≡ pairs
+pub kept_cell : {A : Type 0} (p : Problem) (pairs : Cell) (found new : List FoundCell) (f : FoundCell) (r : Result A PlainFault) → IsDone p (Before pairs) found → FitsWallWorking p pairs → IsMixedCell p pairs → f.cell ≡ pairs
     → HasLowestNormal p f → MatchResult r (λ x. new ≡ found ++ f ∷ []) (λ fault. fault ≡ OutOfMemory) → MatchResult r (λ x. IsDone p (UpTo pairs) new) (IsUnfitAt p pairs)
 kept_cell p pairs found new f (Ok x) d w m is low h = subst (IsDone p (UpTo pairs)) (sym h) (done_more p pairs found f d w m is low)
 kept_cell p pairs found new f (Err e) d w m is low h = subst (IsUnfitAt p pairs) (sym h) tt
@@ -215,6 +217,18 @@ gone_through p true pairs found n d = absurd (n yes)
   where
     yes : IsTrue true
     yes = search rules
+
+pub advanced : (p : Problem) → IsValidProblem p → HasNoCorners p → (counts : List ℕ) → counts ≡ map (λ (s : List Point). length s) p.supports → (going : Bool) (pairs next : Cell) (wheels : List Wheel) (found : List FoundCell)
+    → (IsTrue going → Show counts wheels next) → (IsTrue going → IsNext counts pairs next × IsChoice counts next × left_after counts next < left_after counts pairs) → (¬ (IsTrue going) → IsLast counts pairs)
+    → IsDone p (UpTo pairs) found
+    → (IsTrue going → IsChoice counts next × Show counts wheels next) × IsDone p (Tried going next) found × (steps_left going counts next < left_after counts pairs + 1)
+advanced p valid alone counts e true pairs next wheels found shown more last d =
+    let t : IsTrue true = search rules in
+    let n = more t in
+    let less = n.2 in
+    ((λ u. (n.1, shown u)), turn_on p valid alone counts e pairs next found n.0 d, omega (arith, less))
+advanced p valid alone counts e false pairs next wheels found shown more last d =
+    ((λ u. absurd (no_going u)), turn_off p valid alone counts e pairs found (last no_going) d, omega arith)
 
 -- the answers of the whole
 pub nothing_done : (p : Problem) → IsValidProblem p → HasNoCorners p → (counts : List ℕ) → counts ≡ map (λ (s : List Point). length s) p.supports → ¬ (HavePairs counts) → (found : List FoundCell) → found ≡ []

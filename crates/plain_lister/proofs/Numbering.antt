@@ -1,9 +1,10 @@
 -- numbers of pairs and of choices
-use Rattle.std.proofs.Common.{◌≡◌, ◌↔◌, ℕ, zero, suc, ◌+◌, ◌-◌, ◌*◌, ◌/◌, ◌<◌, ◌≤◌, List, [], ◌∷◌, ◌++◌, length, map, take, drop, get_or, refl, sym, ap, ap₂, subst, ◌∙◌, arith, ◌%◌, drop-cons, add-one, take_all, div-add-mod'}
+use Rattle.std.proofs.Common.{◌≡◌, ◌↔◌, inl, inr, ℕ, zero, suc, ◌+◌, ◌-◌, ◌*◌, ◌/◌, ◌<◌, ◌≤◌, List, [], ◌∷◌, ◌++◌, length, map, take, drop, get_or, refl, sym, ap, ap₂, subst, ◌∙◌, arith, ◌%◌, drop-cons, add-one, take_all, div-add-mod'}
 use Rattle.std.proofs.Math.Nat.{mod-lt}
 use Rattle.int_vectors.specs.Vectors.{Each}
 use Rattle.cayley.specs.Problems.{Point, Problem}
 use Rattle.cayley.specs.Valid.{IsValidProblem, support_at}
+use Rattle.plain_lister.proofs.Odometer.{less_or_same}
 use Rattle.plain_lister.specs.Choices.{pairs_of, product, pair_counts, HasTooMany, IsExcessOf, HavePairs}
 
 product-more : (ns : List ℕ) (i : ℕ) (d : ℕ) → i < length ns → product (take (i + 1) ns) ≡ product (take i ns) * get_or ns i d
@@ -111,3 +112,7 @@ no_product (suc (suc m) ∷ counts) n = let e = no_product counts (λ h. n (omeg
 
 pub none_many : (p : Problem) (counts : List ℕ) → counts ≡ map (λ (s : List Point). length s) p.supports → ¬ (HavePairs counts) → ¬ (HasTooMany p)
 none_many p counts e n = few_enough p counts e (let z = no_product counts n in omega (arith, z))
+
+-- up to one more position
+pub up_more : (P : ℕ → Type 0) (i : ℕ) → ((c : ℕ) → c ≤ i → P c) → P (i + 1) → (c : ℕ) → c ≤ i + 1 → P c
+up_more P i f h c l = elim (less_or_same c (i + 1) l) [ inl k ↦ f c (omega arith) | inr k ↦ subst P (sym k) h ]

@@ -1,12 +1,10 @@
--- a problem of file points alone: its ranks and speeds are zero, and it is the problem of its file points
+-- a problem of file points alone: its speeds are zero where it is still, and it is the problem of its file points
 use Rattle.std.proofs.Common.{◌≡◌, ℕ, suc, ◌≤◌, List, [], ◌∷◌, length, map, take, refl, sym, ap, subst, ◌∙◌}
 use Rattle.std.proofs.Math.IntN.{pos}
 use Rattle.int_vectors.specs.Vectors.{Each}
-use Rattle.cayley.specs.Problems.{Point, Problem, EachSupport, with_rank, ranked_supports, first_points, file_points}
-use Rattle.cayley.specs.Valid.{IsValidProblem, IsWithinProblem}
+use Rattle.cayley.specs.Problems.{Point, Problem, EachSupport, IsStill, ranked_supports, first_points, file_points}
+use Rattle.cayley.specs.Valid.{IsValidProblem}
 use Rattle.plain_lister.specs.Lists.{HasNoCorners}
-use Rattle.plain_lister.proofs.Mixed.{HasNoRanks}
-use Rattle.plain_lister.proofs.Still.{IsResting}
 
 take_whole : (s : List Point) → take (length s) s ≡ s
 take_whole [] = refl
@@ -29,21 +27,6 @@ of_all Q i [] (s ∷ supports) e h = absurd e
 of_all Q i (f ∷ files) [] e h = absurd e
 of_all Q i (f ∷ files) (s ∷ supports) e h = (subst (λ l. Each l Q) (take_length s f e.0) h.0, of_all Q (suc i) files supports e.1 h.1)
 
-pub support_map : (i : ℕ) (files : List ℕ) (supports : List (List Point)) (P Q : ℕ → ℕ → List Point → Type 0) → EachSupport i files supports P
-    → ((j f : ℕ) (s : List Point) → P j f s → Q j f s) → EachSupport i files supports Q
-support_map i [] [] P Q e h = tt
-support_map i [] (s ∷ supports) P Q e h = e
-support_map i (f ∷ files) [] P Q e h = e
-support_map i (f ∷ files) (s ∷ supports) P Q e h = (h i f s e.0, support_map (suc i) files supports P Q e.1 h)
-
-ranks_gone : (s : List Point) → Each (map (with_rank 0) s) (λ (x : Point). x.rank ≡ 0)
-ranks_gone [] = tt
-ranks_gone (x ∷ s) = (refl, ranks_gone s)
-
-all_gone : (supports : List (List Point)) → Each (map (map (with_rank 0)) supports) (λ s. Each s (λ (x : Point). x.rank ≡ 0))
-all_gone [] = tt
-all_gone (s ∷ supports) = (ranks_gone s, all_gone supports)
-
 pub counts_within : (i : ℕ) (files : List ℕ) (supports : List (List Point)) → EachSupport i files supports (λ j f s. length s ≡ f) → Each files (λ f. (1 ≤ f) × (f ≤ 1000))
     → Each supports (λ s. (1 ≤ length s) × (length s ≤ 1000))
 counts_within i [] [] e h = tt
@@ -52,17 +35,8 @@ counts_within i (f ∷ files) [] e h = absurd e
 counts_within i (f ∷ files) (s ∷ supports) e h = (subst (λ n. (1 ≤ n) × (n ≤ 1000)) (sym e.0) h.0, counts_within (suc i) files supports e.1 h.1)
 
 module _ (p : Problem) (valid : IsValidProblem p) (alone : HasNoCorners p) where
-  same_ranks : p.supports ≡ map (map (with_rank 0)) p.supports
-  same_ranks = subst (λ v. p.supports ≡ ranked_supports v p.files p.supports) valid.version valid.ranks
-
-  pub even_of : HasNoRanks p
-  even_of = subst (λ l. Each l (λ s. Each s (λ (x : Point). x.rank ≡ 0))) (sym same_ranks) (all_gone p.supports)
-
-  pub resting_of : IsResting p.supports
-  resting_of = of_all (λ x. x.speed ≡ pos 0) 1 p.files p.supports alone valid.shape.still
-
-  pub small_of : Each p.supports (λ s. Each s IsWithinProblem)
-  small_of = of_all IsWithinProblem 1 p.files p.supports alone (support_map 1 p.files p.supports _ _ valid.limits (λ j f s h. h.0))
+  pub resting_of : IsStill p → Each p.supports (λ s. Each s (λ (x : Point). x.speed ≡ pos 0))
+  resting_of still = of_all (λ x. x.speed ≡ pos 0) 1 p.files p.supports alone still
 
   pub counts_of : Each p.supports (λ s. (1 ≤ length s) × (length s ≤ 1000))
   counts_of = counts_within 1 p.files p.supports alone valid.shape.counts

@@ -102,7 +102,7 @@ module _ (place i : ℕ) (counts : List ℕ) (old now : Cell) (wheels : List Whe
 
   pub turn_to : (y : Pair) → v.at ≡ (get_or wheels i e).at + 1 → v.at < length (get_or wheels i e).pairs.items → y ≡ shown v
       → Show counts (set wheels i v) (set now i y)
-      × (IsNext counts old (set now i y) × IsChoice counts (set now i y) × (left_after counts (set now i y) < left_after counts old) × (take i (set now i y) ≡ take i old))
+      × (IsNext counts old (set now i y) × IsChoice counts (set now i y) × (left_after counts (set now i y) < left_after counts old))
   turn_to y a l f =
       let t = turned_on (get_or counts i 0) (get_or wheels i e) v (get_or now i d) own least same y a l f in
       (show_set i counts wheels now v y show wheel_inside t.0, stop_here place i counts old now d is old_long choice turned last y t.1 t.2)

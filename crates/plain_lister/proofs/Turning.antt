@@ -36,11 +36,6 @@ set_at i [] rest q lt = absurd (omega arith)
 set_at zero (x ∷ old) rest q lt = refl
 set_at (suc i) (x ∷ old) rest q lt = ap (λ l. x ∷ l) (set_at i old rest q (omega arith))
 
-take_same : (i : ℕ) (old rest : Cell) → i ≤ length old → take i (take i old ++ rest) ≡ take i old
-take_same zero old rest le = refl
-take_same (suc i) [] rest le = absurd (omega arith)
-take_same (suc i) (x ∷ old) rest le = ap (λ l. x ∷ l) (take_same i old rest (omega arith))
-
 drop_counts : (i : ℕ) (counts : List ℕ) → i < length counts → firsts (drop i counts) ≡ (1, 2) ∷ firsts (drop (suc i) counts)
 drop_counts i [] lt = absurd (omega arith)
 drop_counts zero (m ∷ counts) lt = refl
@@ -76,7 +71,7 @@ module _ (place i : ℕ) (counts : List ℕ) (old now : Cell) (d : Pair) (is : p
   )
 
   pub stop_here : (q : Pair) → IsNextPair (get_or counts i 0) (get_or now i d) q → pair_left (get_or counts i 0) q < pair_left (get_or counts i 0) (get_or now i d)
-      → IsNext counts old (set now i q) × IsChoice counts (set now i q) × (left_after counts (set now i q) < left_after counts old) × (take i (set now i q) ≡ take i old)
+      → IsNext counts old (set now i q) × IsChoice counts (set now i q) × (left_after counts (set now i q) < left_after counts old)
   stop_here q n h =
       let e = set_is q in
       let m = subst (λ x. IsNextPair (get_or counts i 0) x q) same_pair n in
@@ -84,5 +79,4 @@ module _ (place i : ℕ) (counts : List ℕ) (old now : Cell) (d : Pair) (is : p
         subst (IsNext counts old) (sym e) (next_at i counts old q d inside choice m last_is),
         subst (IsChoice counts) (sym e) (choice_at i counts old q inside choice m.0),
         subst (λ l. left_after counts l < left_after counts old) (sym e) (left_at i counts old q d inside choice k),
-        ap (take i) e ∙ take_same i old (q ∷ firsts (drop (suc i) counts)) (omega (arith, inside_old)),
       )

@@ -1,5 +1,4 @@
 pub mod Choices
-pub mod Workings
 pub mod Order
 pub mod Wheels
 pub mod Lists

@@ -8,7 +8,7 @@ use Rattle.cayley.specs.Mixed.{IsMixedCell, IsLowestNormal}
 use Rattle.plain_lister.specs.declared.faults.PlainFault.{PlainFault}
 use Rattle.plain_lister.specs.declared.faults.PlainFault.TheVariants.{TooMany, Overflow, OutOfMemory}
 use Rattle.plain_lister.specs.Choices.{HasTooMany, IsExcess}
-use Rattle.plain_lister.specs.Workings.{FitsWorking}
+use Rattle.cone_walls.specs.Workings.{FitsWallWorking}
 
 -- every point is a file point
 abbrev pub HasNoCorners : Problem → Type 0
@@ -24,12 +24,12 @@ IsJudged p cell judged = MatchOption judged (¬ (IsMixedCell p cell)) (λ normal
 
 -- the working of each choice fits
 abbrev pub AllFit : Problem → Type 0
-AllFit p = (cell : Cell) → IsOf p cell → FitsWorking p cell
+AllFit p = (cell : Cell) → IsOf p cell → FitsWallWorking p cell
 
 -- the least choice whose working doesn't fit
 abbrev pub IsFirstUnfit : Problem → Cell → Type 0
-IsFirstUnfit p cell = IsOf p cell × ¬ (FitsWorking p cell)
-    × ((other : Cell) → IsOf p other → IsLess other cell → FitsWorking p other)
+IsFirstUnfit p cell = IsOf p cell × ¬ (FitsWallWorking p cell)
+    × ((other : Cell) → IsOf p other → IsLess other cell → FitsWallWorking p other)
 
 -- why there is no list
 abbrev pub IsPlainFault : Problem → PlainFault → Type 0

@@ -9,7 +9,7 @@ use Rattle.plain_lister.specs.declared.faults.PlainFault.{PlainFault}
 use Rattle.plain_lister.specs.declared.faults.PlainFault.TheVariants.{TooMany, Overflow, OutOfMemory}
 use Rattle.plain_lister.specs.Lists.{HasLowestNormal, IsFirstUnfit}
 use Rattle.plain_lister.specs.Order.{left_after}
-use Rattle.plain_lister.specs.Workings.{FitsWorking}
+use Rattle.cone_walls.specs.Workings.{FitsWallWorking}
 
 abbrev pub cells_of : List FoundCell → List Cell
 cells_of found = map (λ (f : FoundCell). f.cell) found
@@ -18,7 +18,7 @@ cells_of found = map (λ (f : FoundCell). f.cell) found
 pub record IsDone (p : Problem) (D : Cell → Type 0) (found : List FoundCell) : Type 0 where
   pub list : IsListOf (λ cell. D cell × IsMixedCell p cell) (cells_of found)
   pub lowest : Each found (HasLowestNormal p)
-  pub fit : (cell : Cell) → IsOf p cell → D cell → FitsWorking p cell
+  pub fit : (cell : Cell) → IsOf p cell → D cell → FitsWallWorking p cell
 
 abbrev pub Before : Cell → Cell → Type 0
 Before cell other = IsLess other cell
@@ -34,7 +34,7 @@ Tried false cell other = Unit {0}
 -- the working of this cell doesn't fit
 abbrev pub IsUnfitAt : Problem → Cell → PlainFault → Type 0
 IsUnfitAt p cell (TooMany choices) = ⊥
-IsUnfitAt p cell (Overflow other) = (other ≡ cell) × ¬ (FitsWorking p cell)
+IsUnfitAt p cell (Overflow other) = (other ≡ cell) × ¬ (FitsWallWorking p cell)
 IsUnfitAt p cell OutOfMemory = Unit {0}
 
 -- the least choice whose working doesn't fit

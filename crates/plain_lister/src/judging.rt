@@ -1,71 +1,57 @@
-ghost use Rattle.std.specs.Prelude.{◌≡◌, MatchResult, IfOk, length};
+ghost use Rattle.std.specs.Prelude.{◌≡◌, ◌↔◌, IsTrue, MatchOption, MatchResult};
 ghost use Rattle.cayley.specs.Cells.{IsOf};
-ghost use Rattle.cayley.specs.Rows as rows;
+ghost use Rattle.cayley.specs.Problems.{IsStill};
 ghost use Rattle.cayley.specs.Valid.{IsValidProblem};
+ghost use Rattle.cone_walls.specs.Workings.{FitsWallWorking};
 ghost use Rattle.plain_lister.specs.Lists.{HasNoCorners, IsJudged};
-ghost use Rattle.plain_lister.specs.Workings.{FitsRest, FitsWorking};
 ghost use Rattle.reduced_rows.specs.Refusals.{IsFromFault};
-ghost use Rattle.reduced_rows.specs.Spans.{IsReducedOf};
 
-use crate::edges::copied;
-use crate::rises::all_rise;
 use cayley::{Cell, Normal, Problem};
+use cone_walls::{CellFault, Steps, walls_of};
+use crossing::{Entry, Exit, entry_of, exit_of};
 use inner_normal::in_lowest_terms;
-use int_vectors::IntVec;
-use reduced_rows::{FromFault, ReduceFault, Reduced, reduce};
+use reduced_rows::FromFault;
 use std::alloc::Global;
+use std::sync::ledger::Ledger;
 
-// The cell's normal in lowest terms, from its reduced rows, where it is a mixed cell.
-fn judge_reduced(
-    alloc: Global,
-    problem: &Problem,
-    cell: &Cell,
-    reduced: &Reduced,
-) -> Result<Option<Normal>, FromFault>
-    requires valid { IsValidProblem problem.now }
-    requires alone { HasNoCorners problem.now }
-    requires of { IsOf problem.now cell.now }
-    requires reduced { IsReducedOf problem.now.dimension (rows.edge_rows problem.now cell.now) reduced.now }
-    ensures { MatchResult result
-        (λ judged. FitsRest problem.now cell.now reduced.now × IsJudged problem.now cell.now judged)
-        (IsFromFault (FitsRest problem.now cell.now reduced.now)) }
+// Whether neither end is there.
+fn lasts(entry: Entry, exit: Exit) -> bool
+    ensures { IsTrue result ↔ ((entry ≡ Entry.Always) × (exit ≡ Exit.Never)) }
 {
-    let Some(den) = reduced.denominator() else {
-        return Err(FromFault::Overflow);
-    };
-    let v = match reduced.solution(alloc, problem.dim(), den) {
-        Ok(v) => v,
-        Err(fault) => return Err(fault),
-    };
-    match all_rise(problem, cell, den, &v) {
-        None => Err(FromFault::Overflow),
-        Some(false) => Ok(None),
-        Some(true) => Ok(Some(in_lowest_terms(v, den))),
+    match entry {
+        Entry::Always => match exit {
+            Exit::Never => true,
+            _ => false,
+        },
+        _ => false,
     }
 }
 
-/// The cell's normal in lowest terms, where it is a mixed cell. `edges` are its rows.
-pub(crate) fn judge(
+/// The cell's normal in lowest terms, where it is a mixed cell: the points rest, so it is alive at all
+/// times or at none.
+pub(crate) fn judge<L: Ledger>(
     alloc: Global,
     problem: &Problem,
     cell: &Cell,
-    edges: &[IntVec],
+    steps: &mut Steps<L>,
 ) -> Result<Option<Normal>, FromFault>
     requires valid { IsValidProblem problem.now }
+    requires still { IsStill problem.now }
     requires alone { HasNoCorners problem.now }
     requires of { IsOf problem.now cell.now }
-    requires edges { edges.now ≡ rows.edge_rows problem.now cell.now }
     ensures { MatchResult result
-        (λ judged. FitsWorking problem.now cell.now × IsJudged problem.now cell.now judged)
-        (IsFromFault (FitsWorking problem.now cell.now)) }
+        (λ judged. FitsWallWorking problem.now cell.now × IsJudged problem.now cell.now judged)
+        (IsFromFault (FitsWallWorking problem.now cell.now)) }
 {
-    let Ok(rows) = copied(alloc, edges) else {
-        return Err(FromFault::OutOfMemory);
+    let walls = match walls_of(alloc, problem, cell, steps) {
+        Ok(walls) => walls,
+        Err(CellFault::Dependent { .. }) => return Ok(None),
+        Err(CellFault::Overflow) => return Err(FromFault::Overflow),
+        Err(CellFault::OutOfMemory) => return Err(FromFault::OutOfMemory),
     };
-    match reduce(alloc, rows, problem.dim()) {
-        Ok(reduced) => judge_reduced(alloc, problem, cell, &reduced),
-        Err(ReduceFault::Dependent { kernel: _ }) => Ok(None),
-        Err(ReduceFault::Overflow) => Err(FromFault::Overflow),
-        Err(ReduceFault::OutOfMemory) => Err(FromFault::OutOfMemory),
+    if !lasts(entry_of(&walls.lines), exit_of(&walls.lines)) {
+        return Ok(None);
     }
+    let normal = walls.normal;
+    Ok(Some(in_lowest_terms(normal.p, normal.den)))
 }

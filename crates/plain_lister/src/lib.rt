@@ -4,12 +4,9 @@
 
 mod choices;
 mod counting;
-mod edges;
 mod faults;
 mod judging;
 mod lists;
-mod rises;
-mod sums;
 mod trying;
 mod wheels;
 

@@ -1,7 +1,7 @@
 ghost use Rattle.std.specs.Prelude.{◌≡◌, ◌<◌, ◌≤◌, ◌+◌, ◌↔◌, ℕ, Bool, IsTrue, List, map, length, MatchResult, IfOk, IfErr};
 ghost use Rattle.cayley.specs.Mixed.{IsMixedCell};
 ghost use Rattle.cayley.specs.Cells.{IsListOf};
-ghost use Rattle.cayley.specs.Rows.{edge_rows};
+ghost use Rattle.cayley.specs.Problems.{IsStill};
 ghost use Rattle.cayley.specs.Valid.{IsValidProblem};
 ghost use Rattle.int_vectors.specs.Vectors.{Each};
 ghost use Rattle.plain_lister.specs.Choices.{HasTooMany, HavePairs};
@@ -12,46 +12,41 @@ ghost use Rattle.plain_lister.specs.Progress.{IsDone, Before, Tried, IsSearchFau
 
 use crate::choices::advance;
 use crate::counting::{counts_of, excess, have_pairs};
-use crate::edges::{renew, rows_of};
 use crate::faults::PlainFault;
 use crate::trying::try_choice;
 use crate::wheels::{Wheel, wheels_of};
 use cayley::{FoundCell, Problem};
-use int_vectors::IntVec;
+use cone_walls::Steps;
 use std::alloc::{AllocError, Global};
+use std::marker::Brand;
+use std::sync::ledger::{Blank, Ledger};
 
 // Tries this choice, goes to the next one, and tells whether there is one.
-fn turn(
+fn turn<L: Ledger>(
     alloc: Global,
     problem: &Problem,
     wheels: &mut [Wheel],
     pairs: &mut [(u32, u32)],
-    edges: &mut [IntVec],
+    steps: &mut Steps<L>,
     found: &mut Vec<FoundCell>,
 ) -> Result<bool, PlainFault>
     ghost counts: { List ℕ }
     requires valid { IsValidProblem problem.now }
+    requires still { IsStill problem.now }
     requires alone { HasNoCorners problem.now }
     requires counts { counts ≡ map length problem.now.supports }
     requires choice { IsChoice counts pairs.old }
     requires shown { Show counts wheels.old pairs.old }
-    requires edges { edges.old ≡ edge_rows problem.now pairs.old }
     requires done { IsDone problem.now (Before pairs.old) found.old.items }
     ensures { MatchResult result
-        (λ going. (IsTrue going → IsChoice counts pairs.new × Show counts wheels.new pairs.new × (edges.new ≡ edge_rows problem.now pairs.new)) × IsDone problem.now (Tried going pairs.new) found.new.items
+        (λ going. (IsTrue going → IsChoice counts pairs.new × Show counts wheels.new pairs.new) × IsDone problem.now (Tried going pairs.new) found.new.items
         × steps_left going counts pairs.new < left_after counts pairs.old + 1)
         (IsSearchFault problem.now) }
 {
-    if let Err(fault) = try_choice(alloc, problem, pairs, edges, found) {
+    if let Err(fault) = try_choice(alloc, problem, pairs, steps, found) {
         return Err(fault);
     }
-    match advance(wheels, pairs) {
-        Some(place) => match renew(alloc, problem, pairs, place, edges) {
-            Ok(()) => Ok(true),
-            Err(_) => Err(PlainFault::OutOfMemory),
-        },
-        None => Ok(false),
-    }
+    Ok(advance(wheels, pairs))
 }
 
 // The first pair of each support.
@@ -66,12 +61,14 @@ fn first_choice(alloc: Global, counts: &[u32]) -> Result<Vec<(u32, u32)>, AllocE
 }
 
 // Tries all choices in cell order.
-fn list_choices(
+fn list_choices<L: Ledger>(
     alloc: Global,
     problem: &Problem,
     counts: &[u32],
+    steps: &mut Steps<L>,
 ) -> Result<Vec<FoundCell>, PlainFault>
     requires valid { IsValidProblem problem.now }
+    requires still { IsStill problem.now }
     requires alone { HasNoCorners problem.now }
     requires counts { counts.now ≡ map length problem.now.supports }
     requires pairs { HavePairs counts.now }
@@ -83,9 +80,6 @@ fn list_choices(
     let Ok(mut wheels) = wheels_of(alloc, counts) else {
         return Err(PlainFault::OutOfMemory);
     };
-    let Ok(mut edges) = rows_of(alloc, problem, &pairs) else {
-        return Err(PlainFault::OutOfMemory);
-    };
     let mut found = Vec::new(alloc);
     let mut going = true;
     while going {
@@ -94,7 +88,7 @@ fn list_choices(
             problem,
             &mut wheels,
             &mut pairs,
-            &mut edges,
+            steps,
             &mut found,
         ) {
             Ok(on) => going = on,
@@ -117,12 +111,14 @@ fn no_choices(alloc: Global, problem: &Problem, counts: &[u32]) -> Vec<FoundCell
 }
 
 // The mixed cells of a problem whose supports have these numbers of points.
-fn list_counted(
+fn list_counted<L: Ledger>(
     alloc: Global,
     problem: &Problem,
     counts: &[u32],
+    steps: &mut Steps<L>,
 ) -> Result<Vec<FoundCell>, PlainFault>
     requires valid { IsValidProblem problem.now }
+    requires still { IsStill problem.now }
     requires alone { HasNoCorners problem.now }
     requires counts { counts.now ≡ map length problem.now.supports }
     ensures { MatchResult result
@@ -134,17 +130,40 @@ fn list_counted(
     }
     match excess(counts) {
         Some(choices) => Err(PlainFault::TooMany { choices }),
-        None => list_choices(alloc, problem, counts),
+        None => list_choices(alloc, problem, counts, steps),
     }
 }
 
-/// The mixed cells of a problem without corners, in cell order, with their normals in lowest terms:
-/// every choice of one pair of points from each support is tried.
+// The mixed cells of a problem, by a counter of its own.
+fn list_by<L: Ledger>(
+    alloc: Global,
+    problem: &Problem,
+    counts: &[u32],
+    blank: Blank,
+) -> Result<Vec<FoundCell>, PlainFault>
+    requires ledger { (blank.name ≡ L.name) × (blank.parts ≡ L.parts) × (0 < blank.parts) }
+    requires valid { IsValidProblem problem.now }
+    requires still { IsStill problem.now }
+    requires alone { HasNoCorners problem.now }
+    requires counts { counts.now ≡ map length problem.now.supports }
+    ensures { MatchResult result
+        (λ found. ¬ (HasTooMany problem.now) × IsDone problem.now (λ _. Unit {0}) found.items)
+        (IsPlainFault problem.now) }
+{
+    let mut steps = Steps::<L>::new(blank);
+    list_counted(alloc, problem, counts, &mut steps)
+}
+
+/// The mixed cells of a problem of either version without corners, whose points rest, in cell order,
+/// with their normals in lowest terms: every choice of one pair of points from each support is tried.
 ///
 /// `TooMany` exactly where there are more than 1,000,000 choices; a support of one point leaves
-/// none. Else `Overflow` exactly where a number of some choice's working doesn't fit.
+/// none. Else `Overflow` exactly where a number of some choice's working doesn't fit: of its
+/// elimination, kernel, denominator, normal and wall lines, and in version 2 of the circuits of its
+/// further points.
 pub fn plain_list(alloc: Global, problem: &Problem) -> Result<Vec<FoundCell>, PlainFault>
     requires alone { HasNoCorners problem.now }
+    requires still { IsStill problem.now }
     // Ok: exactly the mixed cells, each once, in cell order.
     ensures listed { IfOk result (λ found. IsListOf (IsMixedCell problem.now) (cells_of found.items)) }
     ensures lowest { IfOk result (λ found. Each found.items (HasLowestNormal problem.now)) }
@@ -156,5 +175,5 @@ pub fn plain_list(alloc: Global, problem: &Problem) -> Result<Vec<FoundCell>, Pl
         return Err(PlainFault::OutOfMemory);
     };
     let _dim = problem.dim();
-    list_counted(alloc, problem, &counts)
+    list_by::<Brand>(alloc, problem, &counts, Blank::new(1))
 }

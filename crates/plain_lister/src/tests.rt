@@ -1,4 +1,5 @@
 ghost use Rattle.std.specs.Prelude.{◌<◌, IfOk};
+ghost use Rattle.cayley.specs.Problems.{IsStill};
 ghost use Rattle.plain_lister.specs.Lists.{HasNoCorners};
 
 use crate::{PlainFault, plain_list};
@@ -7,14 +8,27 @@ use int_vectors::IntVec;
 use std::alloc::Global;
 use std::test::Fail;
 
-fn problem(alloc: Global, supports: Vec<Vec<FilePoint>>) -> Result<Problem, Fail>
-    ensures { IfOk result HasNoCorners }
+// The problem of a file's points.
+fn of_file(alloc: Global, file: &LiftFile) -> Result<Problem, Fail>
+    ensures { IfOk result (λ p. HasNoCorners p × IsStill p) }
 {
-    let file = LiftFile::new(alloc, supports.len(), supports, None)?;
-    match Problem::plain(alloc, &file) {
+    let _dim = file.dim();
+    match Problem::plain(alloc, file) {
         Ok(problem) => Ok(problem),
         Err(fault) => Err(fault.into()),
     }
+}
+
+fn problem(alloc: Global, supports: Vec<Vec<FilePoint>>) -> Result<Problem, Fail>
+    ensures { IfOk result (λ p. HasNoCorners p × IsStill p) }
+{
+    of_file(alloc, &LiftFile::new(alloc, supports.len(), supports, None)?)
+}
+
+fn perturbed(alloc: Global, supports: Vec<Vec<FilePoint>>) -> Result<Problem, Fail>
+    ensures { IfOk result (λ p. HasNoCorners p × IsStill p) }
+{
+    of_file(alloc, &LiftFile::perturbed(alloc, supports.len(), supports, None)?)
 }
 
 // The numbers of a point from a place on: its coordinates, then its height.
@@ -30,9 +44,11 @@ fn point(alloc: Global, dim: usize, numbers: &[i64], start: usize) -> Result<Fil
 }
 
 // Supports of so many points each, with the numbers of the points one after the other.
-fn plain(alloc: Global, counts: &[usize], numbers: &[i64]) -> Result<Problem, Fail>
-    ensures { IfOk result HasNoCorners }
-{
+fn supports_of(
+    alloc: Global,
+    counts: &[usize],
+    numbers: &[i64],
+) -> Result<Vec<Vec<FilePoint>>, Fail> {
     let mut supports = Vec::new(alloc);
     let mut start: usize = 0;
     for count in counts {
@@ -43,7 +59,7 @@ fn plain(alloc: Global, counts: &[usize], numbers: &[i64]) -> Result<Problem, Fa
         }
         supports.push(points)?;
     }
-    problem(alloc, supports)
+    Ok(supports)
 }
 
 // The numbers of each cell: its positions, its normal and the denominator.
@@ -82,8 +98,32 @@ fn lists_of_worked_problems(rt: HostRuntime) -> Result<(), Fail> {
         (&[2], &[0, 0, 1_000_000, 1], &[1, 2, -1, 1_000_000]),
     ];
     for (counts, numbers, want) in table {
-        let problem = plain(rt.alloc(), counts, numbers)?;
-        match plain_list(rt.alloc(), &problem) {
+        let supports = supports_of(rt.alloc(), counts, numbers)?;
+        match plain_list(rt.alloc(), &problem(rt.alloc(), supports)?) {
+            Ok(found) => assert!(rt; numbers_of(rt.alloc(), &found)?.as_slice() == want),
+            Err(_fault) => assert!(rt; false),
+        }
+    }
+    Ok(())
+}
+
+#[test]
+fn perturbed_heights_split_level_points(rt: HostRuntime) -> Result<(), Fail> {
+    let squares = [
+        0, 0, 3, 1, 0, 10, 0, 1, 20, 1, 1, 90, 0, 0, 5, 1, 0, 40, 0, 1, 9, 1, 1, 1,
+    ];
+    let table: [(&[usize], &[i64], &[i128]); 3] = [
+        (&[3], &[0, 0, 1, 0, 2, 0], &[1, 2, 0, 1, 2, 3, 0, 1]),
+        (&[2], &[0, 7, 1, 7], &[1, 2, 0, 1]),
+        (
+            &[4, 4],
+            &squares,
+            &[1, 2, 1, 4, -7, 11, 1, 1, 3, 3, 4, 8, -17, 1],
+        ),
+    ];
+    for (counts, numbers, want) in table {
+        let supports = supports_of(rt.alloc(), counts, numbers)?;
+        match plain_list(rt.alloc(), &perturbed(rt.alloc(), supports)?) {
             Ok(found) => assert!(rt; numbers_of(rt.alloc(), &found)?.as_slice() == want),
             Err(_fault) => assert!(rt; false),
         }

@@ -39,14 +39,14 @@ bounds-pairs-place-in-None g c =
     omega (arith, e.0, e.1, w, t)
 
 pub returns-in-Some-clause-shown : goal.returns-in-Some-clause-shown
-returns-in-Some-clause-shown g c =
+returns-in-Some-clause-shown g c = λ going.
     let i = c.loop-place.invariant in
     let t = c.in-Some.ensures.turned in
     (turn_to c.loop-place.place (c.loop-place.place - 1) g.counts c.args.pairs.now c.loop-place.pairs c.loop-place.wheels (0, 0) c.index-wheels-place.result c.turn.new.self (omega arith) i.within
     c.requires.0 i.show i.turned i.last c.in-Some.ensures.pairs c.in-Some.pair t.0 t.1 t.2).0
 
 pub returns-in-Some-clause-next : goal.returns-in-Some-clause-next
-returns-in-Some-clause-next g c =
+returns-in-Some-clause-next g c = λ going.
     let i = c.loop-place.invariant in
     let t = c.in-Some.ensures.turned in
     (turn_to c.loop-place.place (c.loop-place.place - 1) g.counts c.args.pairs.now c.loop-place.pairs c.loop-place.wheels (0, 0) c.index-wheels-place.result c.turn.new.self (omega arith) i.within

@@ -1,7 +1,6 @@
 use Rattle.std.proofs.Common.{◌≤◌, ◌+◌, ◌*◌, map, take, sym, subst, arith}
 use Rattle.plain_lister.specs.Choices.{pairs_of, product}
-use Rattle.plain_lister.proofs.Numbering.{choices_more, each_count}
-use Rattle.plain_lister.proofs.Rising.{up_more}
+use Rattle.plain_lister.proofs.Numbering.{choices_more, each_count, up_more}
 use Rattle.plain_lister.proofs.counting.excess.Goals as goal
 
 pub pairs_of-choices-requires : goal.pairs_of-choices-requires

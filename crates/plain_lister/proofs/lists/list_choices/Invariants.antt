@@ -1,19 +1,18 @@
 use Rattle.std.specs.Prelude.{◌≡◌, IsTrue, List, map, length}
 use Rattle.cayley.specs.Problems.{Point}
-use Rattle.cayley.specs.Rows.{edge_rows}
 use Rattle.plain_lister.specs.Order.{IsChoice}
 use Rattle.plain_lister.specs.Progress.{IsDone, Tried, steps_left}
 use Rattle.plain_lister.specs.Wheels.{Show}
 use Rattle.plain_lister.proofs.lists.list_choices.Given as goal
 
 abbrev pub invariant-loop-going : goal.invariant-loop-going
-invariant-loop-going l = record {
-  choice : IsTrue l.going → IsChoice l.counts l.pairs.items × Show l.counts l.wheels.items l.pairs.items × (l.edges.items ≡ edge_rows l.problem l.pairs.items);
+invariant-loop-going g l = record {
+  choice : IsTrue l.going → IsChoice l.counts l.pairs.items × Show l.counts l.wheels.items l.pairs.items;
   done : IsDone l.problem (Tried l.going l.pairs.items) l.found.items;
 }
 
 abbrev pub decreases-loop-going : goal.decreases-loop-going
-decreases-loop-going l = steps_left l.going l.counts l.pairs.items
+decreases-loop-going g l = steps_left l.going l.counts l.pairs.items
 
 abbrev pub ghost-turn : goal.ghost-turn
-ghost-turn a = map (λ (s : List Point). length s) a.problem.now.supports
+ghost-turn g a = map (λ (s : List Point). length s) a.problem.now.supports

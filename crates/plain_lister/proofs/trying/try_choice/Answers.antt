@@ -1,20 +1,23 @@
-use Rattle.std.proofs.Common.{◌∙◌, refl, sym, ap}
-use Rattle.cayley.specs.Rows.{edge_rows}
+use Rattle.std.proofs.Common.{refl, subst}
+use Rattle.cone_walls.specs.Workings.{FitsWallWorking}
 use Rattle.plain_lister.proofs.Growing.{valid_cell, done_other, judged_none, judged_some, kept_cell}
 use Rattle.plain_lister.proofs.trying.try_choice.Goals as goal
 
 pub unreachable-requires : goal.unreachable-requires
-unreachable-requires c = c.in_default.ensures.none.0 refl (valid_cell c.args.problem.now c.args.pairs.now c.requires.valid c.requires.of)
-
-pub judge-requires-clause-edges : goal.judge-requires-clause-edges
-judge-requires-clause-edges c = c.requires.edges ∙ ap (edge_rows c.args.problem.now) (sym c.in-Some.ensures.same)
+unreachable-requires g c = c.in_default.ensures.none.0 refl (valid_cell c.args.problem.now c.args.pairs.now c.requires.valid c.requires.of)
 
 pub returns-in-Ok-None : goal.returns-in-Ok-None
-returns-in-Ok-None c =
+returns-in-Ok-None g c =
     let j = judged_none c.args.problem.now c.in-Some.cell c.args.pairs.now c.in-Some.ensures.same c.in-Ok-None.field-0 c.in-Ok-None.field-0-is c.in-Ok-None.ensures in
     done_other c.args.problem.now c.args.pairs.now c.args.found.now.items c.requires.done j.0 j.1
 
 pub returns-in-Ok-Some : goal.returns-in-Ok-Some
-returns-in-Ok-Some c =
+returns-in-Ok-Some g c =
     let j = judged_some c.args.problem.now c.in-Some.cell c.args.pairs.now c.in-Some.ensures.same c.in-Ok-Some.field-0 c.in-Ok-Some.normal c.in-Ok-Some.field-0-is c.in-Ok-Some.ensures in
     kept_cell c.args.problem.now c.args.pairs.now c.args.found.now.items c.keep.new.found.items _ c.keep.result c.requires.done j.0 j.1 c.in-Some.ensures.same j.2 c.keep.ensures
+
+pub returns-in-Err-Overflow : goal.returns-in-Err-Overflow
+returns-in-Err-Overflow g c =
+    let same = c.in-Some.ensures.same in
+    let n = rw c.in-Err-Overflow.field-0-is at c.in-Err-Overflow.ensures in
+    (same, subst (λ k. ¬ (FitsWallWorking c.args.problem.now k)) same n)
