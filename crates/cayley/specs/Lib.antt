@@ -29,3 +29,4 @@ pub mod StillLaws
 pub mod Strangers
 pub mod NamedTies
 pub mod LongerTimes
+pub mod TieProofs

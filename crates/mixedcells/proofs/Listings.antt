@@ -2,7 +2,7 @@
 use Rattle.std.proofs.Common.{◌≡◌, ℕ, suc, List, [], ◌∷◌, map, length, subst}
 use Rattle.std.proofs.lemmas.List.{length-map}
 use Rattle.int_vectors.specs.Vectors.{Each}
-use Rattle.cayley.specs.Problems.{Problem, EachSupport}
+use Rattle.cayley.specs.Problems.{Problem, EachSupport, HasNoCorners}
 use Rattle.cayley.specs.Cells.{IsListOf}
 use Rattle.cayley.specs.Mixed.{IsMixedCell}
 use Rattle.cayley.specs.Files.{File, FilePoint, resting, plain_problem}
@@ -11,7 +11,7 @@ use Rattle.cayley.specs.declared.found.FoundCell.{FoundCell}
 use Rattle.cayley.proofs.OneCell.PlainProblems.{plain_is}
 use Rattle.listing_text.specs.Writing.{listing_text}
 use Rattle.plain_lister.specs.Choices.{HasTooMany}
-use Rattle.plain_lister.specs.Lists.{HasNoCorners, HasLowestNormal, AllFit}
+use Rattle.plain_lister.specs.Lists.{HasLowestNormal, AllFit}
 use Rattle.plain_lister.specs.Progress.{cells_of}
 use Rattle.mixedcells.specs.declared.outcome.Outcome.TheVariants as variant
 use Rattle.mixedcells.specs.Answers.{IsListReply}

@@ -4,7 +4,7 @@ use Rattle.std.specs.Prelude.{IsTrue}
 use Rattle.int_vectors.specs.Vectors.{Each}
 use Rattle.cayley.specs.declared.found.FoundCell.{FoundCell}
 use Rattle.cayley.specs.Times.{time_zero}
-use Rattle.cayley.specs.Problems.{Point, Problem}
+use Rattle.cayley.specs.Problems.{Point, Problem, HasNoCorners}
 use Rattle.cayley.specs.Cells.{Cell, EachPair, IsCell, IsOf, IsLess, IsSorted, IsListOf}
 use Rattle.cayley.specs.Mixed.{IsAlive, IsMixedCell, IsLowestNormal}
 use Rattle.cayley.specs.declared.found.Normal.{Normal}
@@ -12,7 +12,7 @@ use Rattle.cayley.specs.Valid.{IsValidProblem, IsValidCell}
 use Rattle.cayley.proofs.Searching.Listing.{Has}
 use Rattle.cayley.proofs.Searching.Members.{has_contains, contains_has}
 use Rattle.plain_lister.specs.Choices.{HasTooMany, HavePairs}
-use Rattle.plain_lister.specs.Lists.{HasNoCorners, HasLowestNormal, IsFirstUnfit, IsJudged, AllFit, IsPlainFault}
+use Rattle.plain_lister.specs.Lists.{HasLowestNormal, IsFirstUnfit, IsJudged, AllFit, IsPlainFault}
 use Rattle.plain_lister.specs.Order.{IsChoice, IsLast, IsNext, firsts, left_after}
 use Rattle.plain_lister.specs.Wheels.{Show}
 use Rattle.plain_lister.specs.declared.wheels.Wheel.{Wheel}

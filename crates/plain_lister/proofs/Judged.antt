@@ -3,7 +3,7 @@ use Rattle.std.proofs.Common.{◌≡◌, ◌∙◌, ℤ, List, Ok, Err, refl, sy
 use Rattle.std.proofs.Math.IntN.{pos}
 use Rattle.std.specs.Prelude.{◌<ℤ◌}
 use Rattle.cayley.specs.Times.{Time, time_zero}
-use Rattle.cayley.specs.Problems.{Problem, IsStill}
+use Rattle.cayley.specs.Problems.{Problem, IsStill, HasNoCorners}
 use Rattle.cayley.specs.Cells.{Cell, IsOf, IsIndependent}
 use Rattle.cayley.specs.Rows.{edge_rows}
 use Rattle.cayley.specs.Mixed.{IsAlive, IsMixedCell}
@@ -22,7 +22,6 @@ use Rattle.crossing.specs.Exits.{IsExit}
 use Rattle.cone_walls.specs.Lives.{LivesBetween}
 use Rattle.cone_walls.specs.Workings.{FitsWallWorking}
 use Rattle.reduced_rows.specs.Steps.{elimination, FitsElimination}
-use Rattle.plain_lister.specs.Lists.{HasNoCorners}
 use Rattle.plain_lister.proofs.Plain.{own_points}
 
 -- the time of a value

@@ -2,9 +2,8 @@
 use Rattle.std.proofs.Common.{◌≡◌, ℕ, suc, ◌≤◌, List, [], ◌∷◌, length, map, take, refl, sym, ap, subst, ◌∙◌}
 use Rattle.std.proofs.Math.IntN.{pos}
 use Rattle.int_vectors.specs.Vectors.{Each}
-use Rattle.cayley.specs.Problems.{Point, Problem, EachSupport, IsStill, ranked_supports, first_points, file_points}
+use Rattle.cayley.specs.Problems.{Point, Problem, EachSupport, IsStill, ranked_supports, first_points, file_points, HasNoCorners}
 use Rattle.cayley.specs.Valid.{IsValidProblem}
-use Rattle.plain_lister.specs.Lists.{HasNoCorners}
 
 take_whole : (s : List Point) → take (length s) s ≡ s
 take_whole [] = refl

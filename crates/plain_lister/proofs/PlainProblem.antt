@@ -1,8 +1,7 @@
 -- the problem of a file's points has no corners
 use Rattle.std.proofs.Common.{◌≡◌, ℕ, suc, List, [], ◌∷◌, length, map, refl, sym, ap, subst}
 use Rattle.cayley.specs.Files.{FilePoint, File, resting, plain_problem}
-use Rattle.cayley.specs.Problems.{Version, version1, EachSupport, with_rank, ranked_supports}
-use Rattle.plain_lister.specs.Lists.{HasNoCorners}
+use Rattle.cayley.specs.Problems.{Version, version1, EachSupport, with_rank, ranked_supports, HasNoCorners}
 
 length-points : (s : List FilePoint) → length (map (with_rank 0) (map resting s)) ≡ length s
 length-points [] = refl

@@ -1,18 +1,14 @@
 -- What the lister answers.
-use Rattle.std.specs.Prelude.{◌≡◌, List, Option, MatchOption, length}
+use Rattle.std.specs.Prelude.{◌≡◌, List, Option, MatchOption}
 use Rattle.cayley.specs.declared.found.FoundCell.{FoundCell}
 use Rattle.cayley.specs.declared.found.Normal.{Normal}
-use Rattle.cayley.specs.Problems.{Problem, EachSupport}
+use Rattle.cayley.specs.Problems.{Problem}
 use Rattle.cayley.specs.Cells.{Cell, IsOf, IsLess}
 use Rattle.cayley.specs.Mixed.{IsMixedCell, IsLowestNormal}
 use Rattle.plain_lister.specs.declared.faults.PlainFault.{PlainFault}
 use Rattle.plain_lister.specs.declared.faults.PlainFault.TheVariants.{TooMany, Overflow, OutOfMemory}
 use Rattle.plain_lister.specs.Choices.{HasTooMany, IsExcess}
 use Rattle.cone_walls.specs.Workings.{FitsWallWorking}
-
--- every point is a file point
-abbrev pub HasNoCorners : Problem → Type 0
-HasNoCorners p = EachSupport 1 p.files p.supports (λ i f s. length s ≡ f)
 
 -- the found cell's normal is its cell's normal in lowest terms
 abbrev pub HasLowestNormal : Problem → FoundCell → Type 0

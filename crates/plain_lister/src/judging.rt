@@ -1,9 +1,9 @@
 ghost use Rattle.std.specs.Prelude.{◌≡◌, ◌↔◌, IsTrue, MatchOption, MatchResult};
 ghost use Rattle.cayley.specs.Cells.{IsOf};
-ghost use Rattle.cayley.specs.Problems.{IsStill};
+ghost use Rattle.cayley.specs.Problems.{IsStill, HasNoCorners};
 ghost use Rattle.cayley.specs.Valid.{IsValidProblem};
 ghost use Rattle.cone_walls.specs.Workings.{FitsWallWorking};
-ghost use Rattle.plain_lister.specs.Lists.{HasNoCorners, IsJudged};
+ghost use Rattle.plain_lister.specs.Lists.{IsJudged};
 ghost use Rattle.reduced_rows.specs.Refusals.{IsFromFault};
 
 use cayley::{Cell, Normal, Problem};

@@ -1,11 +1,11 @@
 ghost use Rattle.std.specs.Prelude.{◌≡◌, ◌<◌, ◌≤◌, ◌+◌, ◌↔◌, ℕ, Bool, IsTrue, List, map, length, MatchResult, IfOk, IfErr};
 ghost use Rattle.cayley.specs.Mixed.{IsMixedCell};
 ghost use Rattle.cayley.specs.Cells.{IsListOf};
-ghost use Rattle.cayley.specs.Problems.{IsStill};
+ghost use Rattle.cayley.specs.Problems.{IsStill, HasNoCorners};
 ghost use Rattle.cayley.specs.Valid.{IsValidProblem};
 ghost use Rattle.int_vectors.specs.Vectors.{Each};
 ghost use Rattle.plain_lister.specs.Choices.{HasTooMany, HavePairs};
-ghost use Rattle.plain_lister.specs.Lists.{HasNoCorners, HasLowestNormal, AllFit, IsPlainFault};
+ghost use Rattle.plain_lister.specs.Lists.{HasLowestNormal, AllFit, IsPlainFault};
 ghost use Rattle.plain_lister.specs.Order.{IsChoice, firsts, left_after};
 ghost use Rattle.plain_lister.specs.Wheels.{Show};
 ghost use Rattle.plain_lister.specs.Progress.{IsDone, Before, Tried, IsSearchFault, cells_of, steps_left};

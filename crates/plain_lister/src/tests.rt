@@ -1,6 +1,5 @@
 ghost use Rattle.std.specs.Prelude.{◌<◌, IfOk};
-ghost use Rattle.cayley.specs.Problems.{IsStill};
-ghost use Rattle.plain_lister.specs.Lists.{HasNoCorners};
+ghost use Rattle.cayley.specs.Problems.{IsStill, HasNoCorners};
 
 use crate::{PlainFault, plain_list};
 use cayley::{FilePoint, FoundCell, LiftFile, Problem};

@@ -1,8 +1,7 @@
 ghost use Rattle.std.specs.Prelude.{◌≡◌, [], ◌∷◌, ◌++◌, MatchResult};
 ghost use Rattle.cayley.specs.Cells.{IsOf};
-ghost use Rattle.cayley.specs.Problems.{IsStill};
+ghost use Rattle.cayley.specs.Problems.{IsStill, HasNoCorners};
 ghost use Rattle.cayley.specs.Valid.{IsValidProblem};
-ghost use Rattle.plain_lister.specs.Lists.{HasNoCorners};
 ghost use Rattle.plain_lister.specs.Progress.{IsDone, Before, UpTo, IsUnfitAt};
 
 use crate::faults::PlainFault;

@@ -1,5 +1,5 @@
+use Rattle.cayley.specs.Problems.{HasNoCorners}
 use Rattle.std.proofs.Common.{subst, sym}
-use Rattle.plain_lister.specs.Lists.{HasNoCorners}
 use Rattle.mixedcells.proofs.Listings.{no_corners, listing_reply}
 use Rattle.mixedcells.proofs.replies.listing.Goals as goal
 

@@ -1,6 +1,6 @@
+use Rattle.cayley.specs.Problems.{HasNoCorners}
 use Rattle.std.proofs.Common.{subst, sym, ap}
 use Rattle.cayley.specs.Files.{File}
-use Rattle.plain_lister.specs.Lists.{HasNoCorners}
 use Rattle.plain_lister.proofs.PlainProblem.{plain_alone}
 use Rattle.plain_lister.proofs.tests.problem.Goals as goal
 
