@@ -1,5 +1,5 @@
 -- a mixed cell of the target is alive at all late times
-use Rattle.std.proofs.Common.{◌≡◌, ◌≢◌, ◌⊎◌, ℕ, zero, suc, ◌+◌, ◌-◌, ◌<◌, ◌≤◌, List, [], ◌∷◌, length, map, take, drop, arith, refl, sym, ap, ap₂, subst, ◌∙◌, inl, inr}
+use Rattle.std.proofs.Common.{◌≡◌, ℕ, zero, suc, ◌+◌, ◌<◌, ◌≤◌, List, [], ◌∷◌, length, arith, refl, sym, ap, ap₂, subst, ◌∙◌, inl, inr}
 use Rattle.std.proofs.lemmas.Int.{ints}
 use Rattle.std.proofs.Math.IntN.{ℤ, pos, ◌+ℤ◌, ◌-ℤ◌, ◌*ℤ◌, neg_ℤ, *ℤ-zero}
 use Rattle.std.specs.Prelude.{◌≤ℤ◌, ◌<ℤ◌}
@@ -7,12 +7,12 @@ use borrow.Author.Differences.{up, down}
 use native.Mathlib.Decide.{ℕ_discrete, dec_le}
 use Rattle.wide_int.proofs.Ring.{as_D, Ds, same_D, D-pos, neg_mul_ℤ}
 use Rattle.wide_int.proofs.Order.{mul_le_ℤ}
-use Rattle.int_vectors.specs.Vectors.{Each, IsZero, IsPositive, dot, at, add, sub, scale}
+use Rattle.int_vectors.specs.Vectors.{IsZero, IsPositive, dot, at, add, sub, scale}
 use Rattle.cayley.specs.Times.{Time, time_zero, IsBefore}
-use Rattle.cayley.specs.Problems.{Point, Problem, IsProblem, point_at, file_points}
+use Rattle.cayley.specs.Problems.{Point, Problem, point_at, file_points}
 use Rattle.cayley.specs.Cells.{Cell, EachPair, IsOf, IsIndependent, IsFurther}
 use Rattle.cayley.specs.Normals.{Normal, mark, height, gap, IsNormal, AllAbove}
-use Rattle.cayley.specs.Mixed.{IsAlive, IsMixedCell}
+use Rattle.cayley.specs.Mixed.{IsAlive}
 use Rattle.cayley.specs.Lives.{AliveLate}
 use Rattle.cayley.specs.LifeLaws.{TargetLaw}
 use Rattle.cayley.proofs.Algebra.Kernel.{length-map}

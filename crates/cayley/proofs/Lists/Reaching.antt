@@ -1,5 +1,5 @@
 -- a bound on coordinates, point by point
-use Rattle.std.proofs.Common.{◌≡◌, ℕ, zero, suc, ◌+◌, ◌<◌, ◌≤◌, List, [], ◌∷◌, ◌++◌, length, map, get_or, take, arith, refl, sym, subst, drop}
+use Rattle.std.proofs.Common.{◌≡◌, ℕ, ◌+◌, ◌<◌, ◌≤◌, List, [], ◌∷◌, length, map, get_or, take, arith, subst}
 use Rattle.std.specs.Prelude.{ℤ}
 use Rattle.std.specs.List.{All}
 use Rattle.std.proofs.lemmas.List.{take_more, take_all}
@@ -7,7 +7,7 @@ use Rattle.std.proofs.lemmas.List.Elements.{All-push}
 use Rattle.int_vectors.specs.Bounds.{Within, IsNarrow}
 use Rattle.int_vectors.specs.Vectors.{Each}
 use Rattle.int_vectors.proofs.BoundRows.{within_weaker}
-use Rattle.cayley.specs.Problems.{Point, Problem}
+use Rattle.cayley.specs.Problems.{Point}
 use Rattle.cayley.specs.Reaches.{IsWithinReach, IsStoredReach}
 use Rattle.cayley.specs.Stored.{point, unranked_of}
 use Rattle.cayley.specs.Valid.{IsCoordinate, IsCornerCoordinate}

@@ -5,7 +5,7 @@ use Rattle.std.proofs.lemmas.List.{length-map, take_all, drop_all, take_more}
 use Rattle.std.proofs.lemmas.Int.{ints}
 use Rattle.std.proofs.Math.IntN.{ℤ, pos, ◌+ℤ◌, ◌-ℤ◌}
 use Rattle.int_vectors.specs.Vectors.{Each}
-use Rattle.cayley.specs.Problems.{version1, Point, Problem, EachSupport, with_rank, ranked_supports}
+use Rattle.cayley.specs.Problems.{version1, Point, Problem, EachSupport, with_rank}
 use Rattle.cayley.specs.Files.{FilePoint, File, moved, moved_points, moved_supports, between_problem}
 use Rattle.cayley.specs.Shapes.{AreSecondHeights}
 use Rattle.cayley.specs.Stored.{file_point, point}

@@ -1,12 +1,12 @@
 -- faults don't look at ranks
-use Rattle.std.proofs.Common.{◌≡◌, ◌≤◌, ℕ, zero, suc, ◌-◌, List, [], ◌∷◌, length, map, take, refl, ap, sym, subst, ◌∙◌, inl, inr}
+use Rattle.std.proofs.Common.{◌≡◌, ◌≤◌, ℕ, zero, suc, ◌-◌, List, [], ◌∷◌, map, refl, ap, sym, subst, ◌∙◌, inl, inr}
 use Rattle.std.specs.Prelude.{slice_index_or}
 use Rattle.std.proofs.lemmas.List.{length-map}
 use Rattle.cayley.specs.declared.faults.ShapeFault.{ShapeFault}
 use Rattle.cayley.specs.declared.faults.ShapeFault.TheVariants.{BadShape, Repeated, Range, StartRange, OutOfMemory}
-use Rattle.cayley.specs.Problems.{Version, Point, Problem, point_at, with_rank, ranked_supports}
+use Rattle.cayley.specs.Problems.{Version, Point, with_rank, ranked_supports}
 use Rattle.cayley.specs.Shapes.{IsRepeat, IsFirst, IsOutsideOf, IsFaultyOf, IsPlaceFault, IsProblemFault}
-use Rattle.cayley.specs.Valid.{IsWithinProblem, IsWithinCorners, support_at, file_count_at}
+use Rattle.cayley.specs.Valid.{IsWithinProblem, IsWithinCorners}
 use Rattle.cayley.proofs.OneCell.Unperturbed.{unranked, point_unranked}
 use Rattle.cayley.proofs.Ranking.RankedProblems.{unmade, ranked, same_ranked, ranked_still, still_ranked, shape_ranked, ranked_shape, coordinates_unranked}
 

@@ -1,12 +1,12 @@
 -- what a problem keeps, carried to supports that differ in ranks alone
-use Rattle.std.proofs.Common.{◌≡◌, ◌⊎◌, ℕ, suc, ◌+◌, ◌≤◌, List, [], ◌∷◌, length, map, take, drop, refl, ap, sym, subst, ◌∙◌, inl, inr}
-use Rattle.std.specs.Prelude.{ℤ, pos}
+use Rattle.std.proofs.Common.{◌≡◌, ◌⊎◌, ℕ, suc, ◌+◌, List, [], ◌∷◌, length, map, take, drop, refl, ap, sym, subst, ◌∙◌, inl, inr}
+use Rattle.std.specs.Prelude.{pos}
 use Rattle.std.proofs.lemmas.List.{length-map}
 use Rattle.int_vectors.specs.Vectors.{Each}
 use Rattle.cayley.specs.Problems.{Version, Point, Problem, EachSupport, HasNoCorners, HasCorners, IsStill, HasRanks, with_rank, ranked_supports}
 use Rattle.cayley.specs.Problems.Version.{version1}
 use Rattle.cayley.specs.Valid.{IsWithinProblem, IsWithinCorners, AreDistinct, IsMoving, HasProblemShape, IsValidProblem}
-use Rattle.cayley.proofs.Lists.Each.{each_map, each_unmap, map_map, map_take, map_drop}
+use Rattle.cayley.proofs.Lists.Each.{map_map, map_take, map_drop}
 use Rattle.cayley.proofs.OneCell.Unperturbed.{unranked, same_well}
 use Rattle.cayley.proofs.Ranking.Unranked.{unranked_ranked, ranked_twice}
 

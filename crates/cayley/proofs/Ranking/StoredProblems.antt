@@ -1,12 +1,12 @@
 -- a problem and its points as they are stored, which have no ranks
-use Rattle.std.proofs.Common.{◌≡◌, ℕ, ◌-◌, ◌+◌, ◌<◌, ◌≤◌, List, [], ◌∷◌, length, map, take, arith, refl, ap, ap₂, sym, subst, ◌∙◌, inl, inr}
-use Rattle.std.specs.Prelude.{ℤ, pos, slice_index_or}
+use Rattle.std.proofs.Common.{◌≡◌, ℕ, ◌-◌, ◌+◌, ◌<◌, ◌≤◌, List, [], ◌∷◌, length, map, arith, ap, ap₂, sym, subst, ◌∙◌, inl, inr}
+use Rattle.std.specs.Prelude.{slice_index_or}
 use Rattle.std.specs.List.{All}
 use Rattle.std.proofs.lemmas.List.{length-map}
 use Rattle.int_vectors.specs.Vectors.{Each}
 use Rattle.cayley.specs.declared.points.Point.{Point as StoredPoint}
 use Rattle.cayley.specs.declared.points.Support.{Support}
-use Rattle.cayley.specs.Problems.{Version, Point, Problem, EachSupport, HasCorners, IsStill, origin, point_at, with_rank, numbered, ranked_supports, HasSamePoints}
+use Rattle.cayley.specs.Problems.{Version, Point, Problem, HasCorners, IsStill, origin, point_at, with_rank, numbered, HasSamePoints}
 use Rattle.cayley.specs.Problems.Version.{version1, version2}
 use Rattle.int_vectors.specs.Bounds.{Within}
 use Rattle.cayley.specs.Reaches.{IsWithinReach, IsStoredReach}
@@ -15,9 +15,9 @@ use Rattle.cayley.specs.Ranks.{ranks_of, firsts_from}
 use Rattle.cayley.specs.declared.faults.ShapeFault.{ShapeFault}
 use Rattle.cayley.specs.Shapes.{IsProblemFault}
 use Rattle.cayley.specs.Stored.{point, unranked_of, problem_of}
-use Rattle.cayley.specs.Valid.{IsCornerCoordinate, HasProblemShape, IsValidProblem, support_at, file_count_at}
-use Rattle.cayley.proofs.Lists.Each.{all_each, each_all, each_map, each_unmap, each_weaker, map_at, map_map, map_same, same_read}
-use Rattle.cayley.proofs.Lists.Supports.{few_points, stored_points, each_support_at, each_support_long}
+use Rattle.cayley.specs.Valid.{IsCornerCoordinate, IsValidProblem, support_at, file_count_at}
+use Rattle.cayley.proofs.Lists.Each.{all_each, each_all, each_unmap, each_weaker, map_at, map_map, map_same, same_read}
+use Rattle.cayley.proofs.Lists.Supports.{few_points, stored_points, each_support_at}
 use Rattle.cayley.proofs.OneCell.Unperturbed.{unranked, point_unranked}
 use Rattle.cayley.proofs.Ranking.FirstRanks.{numbered_at, firsts_few, length-firsts}
 use Rattle.cayley.proofs.Ranking.RankedFaults.{read_support, ranked_fault}

@@ -1,8 +1,8 @@
 -- supports that are given ranks: their points stay, and the ranks that they had before don't matter
-use Rattle.std.proofs.Common.{◌≡◌, ℕ, suc, ◌+◌, ◌-◌, Bool, true, false, if◌then◌else◌, List, [], ◌∷◌, length, map, take, drop, refl, ap, ap₂, sym, ◌∙◌}
-use Rattle.std.specs.Prelude.{min, slice_index_or}
+use Rattle.std.proofs.Common.{◌≡◌, ℕ, suc, ◌+◌, ◌-◌, Bool, true, false, if◌then◌else◌, List, [], ◌∷◌, map, refl, ap, ap₂, sym, ◌∙◌}
+use Rattle.std.specs.Prelude.{min}
 use Rattle.std.proofs.lemmas.List.{length-map}
-use Rattle.cayley.specs.Problems.{Version, Point, EachSupport, with_rank, is_start_corner, numbered, ranks_in, numbered_supports, ranked_supports}
+use Rattle.cayley.specs.Problems.{Version, Point, with_rank, is_start_corner, numbered, ranks_in, numbered_supports, ranked_supports}
 use Rattle.cayley.specs.Problems.Version.{version1, version2}
 use Rattle.cayley.proofs.OneCell.Unperturbed.{unranked}
 

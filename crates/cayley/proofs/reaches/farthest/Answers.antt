@@ -1,9 +1,9 @@
-use Rattle.std.proofs.Common.{◌≡◌, ◌≤◌, ◌<◌, arith, subst, sym, rules}
+use Rattle.std.proofs.Common.{◌≤◌, arith, subst}
 use Rattle.std.specs.List.{All}
 use Rattle.int_vectors.specs.Bounds.{Within}
 use Rattle.cayley.specs.Reaches.{IsStoredReach}
 use Rattle.cayley.specs.declared.points.Point.{Point as StoredPoint}
-use Rattle.cayley.proofs.Lists.Reaching.{more, all_taken, point_more, support_more}
+use Rattle.cayley.proofs.Lists.Reaching.{more, all_taken, support_more}
 use Rattle.cayley.proofs.reaches.farthest.Goals as goal
 use Rattle.cayley.proofs.reaches.farthest.Goals.{then-own-most, else-own-most}
 

@@ -1,9 +1,7 @@
-use Rattle.std.proofs.Common.{◌≡◌, ◌≤◌, ◌<◌, arith, subst, sym, rules}
-use Rattle.std.specs.List.{All}
+use Rattle.std.proofs.Common.{◌≤◌, arith}
 use Rattle.int_vectors.specs.Bounds.{Within}
-use Rattle.cayley.specs.Reaches.{IsStoredReach}
 use Rattle.cayley.specs.declared.points.Point.{Point as StoredPoint}
-use Rattle.cayley.proofs.Lists.Reaching.{more, all_taken, point_more, support_more}
+use Rattle.cayley.proofs.Lists.Reaching.{more, all_taken, point_more}
 use Rattle.cayley.proofs.reaches.farthest_of.Goals as goal
 use Rattle.cayley.proofs.reaches.farthest_of.Goals.{then-own-most, else-own-most}
 

@@ -1,7 +1,4 @@
-use Rattle.std.proofs.Common.{◌≡◌, ◌∙◌, List, length, map, arith, sym, subst}
-use Rattle.std.specs.Prelude.{ℤ}
-use Rattle.cayley.specs.Files.{FilePoint, File}
-use Rattle.cayley.specs.Stored.{file_point}
+use Rattle.std.proofs.Common.{◌∙◌, length, arith, sym}
 use Rattle.cayley.proofs.Lists.Each.{map_map, no_both}
 use Rattle.cayley.proofs.OneCell.PlainProblems.{counts_of}
 use Rattle.cayley.proofs.Refusals.SecondHeights.{as_long, as_small}

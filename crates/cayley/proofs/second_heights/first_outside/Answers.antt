@@ -1,5 +1,5 @@
 use Rattle.std.proofs.Common.{arith, subst}
-use Rattle.std.specs.Prelude.{pos, slice_index_or}
+use Rattle.std.specs.Prelude.{pos}
 use Rattle.cayley.specs.Valid.{IsHeight}
 use Rattle.cayley.proofs.Lists.Each.{each_all, same_read}
 use Rattle.cayley.proofs.second_heights.first_outside.Goals as goal

@@ -1,4 +1,4 @@
-use Rattle.std.proofs.Common.{◌≡◌, ℕ, ◌<◌}
+use Rattle.std.proofs.Common.{ℕ, ◌<◌}
 use Rattle.std.specs.Prelude.{pos, slice_index_or}
 use Rattle.cayley.specs.Valid.{IsHeight}
 use Rattle.cayley.proofs.second_heights.first_outside.Given as goal

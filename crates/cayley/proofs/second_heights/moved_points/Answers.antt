@@ -1,4 +1,4 @@
-use Rattle.std.proofs.Common.{rules, ◌≡◌, arith, sym, ap, refl, FitsSigned, to_z-of_z}
+use Rattle.std.proofs.Common.{rules, arith, FitsSigned, to_z-of_z}
 use Rattle.std.specs.Prelude.{pos, slice_index_or}
 use Rattle.std.specs.Int.{w64}
 use Rattle.cayley.proofs.Lists.Each.{same_read}

@@ -1,5 +1,5 @@
-use Rattle.std.proofs.Common.{◌≡◌, ◌∙◌, ◌<◌, List, length, map, arith, sym, ap, ap₂, subst}
-use Rattle.std.specs.Prelude.{ℤ, slice_index_or}
+use Rattle.std.proofs.Common.{◌∙◌, List, length, map, arith, sym, ap, ap₂, subst}
+use Rattle.std.specs.Prelude.{ℤ}
 use Rattle.std.specs.List.{All}
 use Rattle.cayley.specs.declared.points.Support.{Support}
 use Rattle.cayley.specs.Files.{moved_points}

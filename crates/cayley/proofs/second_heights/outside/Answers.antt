@@ -1,5 +1,4 @@
-use Rattle.std.proofs.Common.{◌∙◌, [], List, map, arith, subst}
-use Rattle.std.specs.Prelude.{ℤ}
+use Rattle.std.proofs.Common.{◌∙◌, [], map, arith}
 use Rattle.std.proofs.lemmas.List.{length-map}
 use Rattle.cayley.proofs.Lists.Each.{map_at}
 use Rattle.cayley.proofs.Refusals.SecondHeights.{first_height, more_heights, all_heights}

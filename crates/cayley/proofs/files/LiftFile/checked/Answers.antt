@@ -1,5 +1,4 @@
-use Rattle.std.proofs.Common.{List, Vec, Global, map, refl, subst}
-use Rattle.std.specs.Prelude.{ℤ}
+use Rattle.std.proofs.Common.{List, Vec, Global, refl, subst}
 use Rattle.std.proofs.lemmas.Result.{err_from_is_err_and}
 use Rattle.cayley.specs.declared.points.FilePoint.{FilePoint}
 use Rattle.cayley.specs.Shapes.{IsFileFault}

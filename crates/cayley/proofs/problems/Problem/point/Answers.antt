@@ -1,4 +1,4 @@
-use Rattle.std.proofs.Common.{◌-◌, ◌<◌, length, arith}
+use Rattle.std.proofs.Common.{arith}
 use Rattle.cayley.specs.Valid.{support_at}
 use Rattle.cayley.proofs.Ranking.StoredProblems.{point_here}
 use Rattle.cayley.proofs.problems.Problem.point.Goals as goal

@@ -1,4 +1,4 @@
-use Rattle.std.proofs.Common.{◌≡◌, ◌≤◌, ◌<◌, ◌-◌, ◌∙◌, ℕ, List, [], length, map, arith, ap, sym, subst}
+use Rattle.std.proofs.Common.{◌-◌, ◌∙◌, ℕ, List, length, map, arith, ap, sym}
 use Rattle.cayley.specs.Problems.{Point, Problem, point_at, with_rank}
 use Rattle.cayley.specs.Stored.{point, version_of}
 use Rattle.cayley.specs.Valid.{support_at, file_count_at}
