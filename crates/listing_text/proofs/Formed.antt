@@ -1,15 +1,16 @@
 -- What is read as a listing is in form.
-use Rattle.std.proofs.Common.{◌≡◌, ℕ, ◌-◌, ◌^◌, ◌<◌, ◌≤◌, Bool, true, false, cond, ℤ, pos, neg_ℤ, List, [], ◌∷◌, ◌++◌, map, length, Option, Ok, Err, refl, sym, subst, ◌∙◌, append_assoc, arith, length-append}
+use Rattle.std.proofs.Common.{◌≡◌, ℕ, ◌-◌, ◌^◌, ◌<◌, ◌≤◌, Bool, true, false, cond, ℤ, pos, neg_ℤ, List, [], ◌∷◌, ◌++◌, map, length, Option, Ok, Err, refl, sym, ap, subst, ◌∙◌, append_assoc, arith, length-append}
 use Rattle.std.specs.Prelude.{codes, nat_lt, slice_index_or, unsigned_abs}
 use Rattle.std.proofs.lemmas.Bool.Decides.{Decides-ltb}
 use Rattle.std.proofs.lemmas.Int.{ints}
 use Rattle.std.proofs.lemmas.List.{length-map}
 use Rattle.int_vectors.specs.Vectors.{Each}
-use Rattle.cayley.specs.Problems.{Version, version1, Problem}
+use Rattle.cayley.specs.Problems.{Version, unperturbed, HasSamePoints}
 use Rattle.cayley.specs.Cells.{Cell, IsOf, EachPair}
-use Rattle.cayley.specs.Files.{File, FilePoint, resting}
+use Rattle.cayley.specs.Files.{File, FilePoint, resting, plain_problem}
 use Rattle.cayley.specs.Valid.{IsValidFile}
-use Rattle.cayley.proofs.OneCell.PlainProblems.{plain_is}
+use Rattle.cayley.proofs.OneCell.PlainProblems.{plain_of, plain_unperturbed}
+use Rattle.cayley.proofs.OneCell.Unperturbed.{same_unperturbed, same_of}
 use Rattle.cayley.proofs.Lists.Each.{each_weaker}
 use Rattle.line_text.specs.Lines.{Row, lines_of, end_line_of}
 use Rattle.support_text.specs.declared.fault.Kind.TheVariants.{Header, Count, Number, Range}
@@ -154,11 +155,15 @@ pairs_of_file (s ∷ supports) (p ∷ cell) h =
     let size : length (map resting s) ≡ length s = length-map s resting in
     ((h.0, h.1, subst (λ (k : ℕ). p.1 ≤ k) (sym size) h.2), pairs_of_file supports cell h.3)
 
+-- the points at rest, without ranks, are those of the problem
+pub plain_same : (file : File) → HasSamePoints (plain_of file.dimension file.supports) (plain_problem file)
+plain_same file = sym (same_unperturbed (plain_problem file) ∙ ap unperturbed (plain_unperturbed file))
+
 formed_of : (file : File) → IsValidFile file → (x : ListedCell) → IsFormed (counts_of file) (found_of x) → IsOfFile file x
 formed_of file valid x formed =
     let size : length (counts_of file) ≡ length file.supports = length-map file.supports length in
     let low = formed.den.0 in (
-      subst (λ (p : Problem). IsOf p x.cell) (plain_is file valid.version) (pairs_of_file file.supports x.cell formed.cell),
+      same_of (plain_of file.dimension file.supports) (plain_problem file) x.cell (plain_same file) (pairs_of_file file.supports x.cell formed.cell),
       formed.size ∙ size ∙ valid.shape.supports,
       omega (arith, ints, low),
     )

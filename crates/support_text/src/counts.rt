@@ -25,10 +25,10 @@ fn version_word(line: &mut Line) -> Result<Version, TextFault>
     let Some(token) = line.next_token() else {
         return Err(fault_at(line.number(), Kind::Header));
     };
-    if token.text == b"1" {
+    if token.text == b"1".as_slice() {
         return Ok(Version::First);
     }
-    if token.text == b"2" {
+    if token.text == b"2".as_slice() {
         return Ok(Version::Second);
     }
     Err(fault_at(line.number(), Kind::Header))
