@@ -2,9 +2,11 @@
 //! cell from which the search begins.
 #![tactic(auto)]
 
+mod corners;
 pub mod laws;
 mod lists;
 mod starts;
+mod vectors;
 
 pub use starts::default_starts;
 
