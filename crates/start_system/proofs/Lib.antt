@@ -4,4 +4,5 @@ pub mod Late
 pub mod Complete
 pub mod Perturbed
 pub mod Started
+pub mod Making
 mod Worked

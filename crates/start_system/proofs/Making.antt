@@ -1,0 +1,4 @@
+-- what the calls make: corners, one entry and one point after the other
+pub mod Entries
+pub mod Least
+pub mod Directions
