@@ -1,4 +1,5 @@
 -- what the calls make: corners, one entry and one point after the other
 pub mod Entries
+pub mod Numbers
 pub mod Least
 pub mod Directions

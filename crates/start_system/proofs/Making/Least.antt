@@ -3,12 +3,14 @@ use Rattle.std.proofs.Common.{◌≡◌, ℕ, zero, suc, ◌+◌, ◌<◌, ◌�
 use Rattle.std.specs.Int.{int_min, int_max}
 use Rattle.std.proofs.Math.IntN.{ℤ, pos}
 use Rattle.std.proofs.lemmas.Int.{ints, int_min_is, int_max_is}
-use Rattle.std.proofs.lemmas.List.{length-take, take_all}
+use Rattle.std.proofs.lemmas.List.{length-take, length-map, take_all}
 use Rattle.int_vectors.specs.Vectors.{Each, at, sub}
 use Rattle.cayley.specs.Files.{FilePoint}
+use Rattle.cayley.specs.declared.points.FilePoint.{FilePoint as StoredFilePoint}
+use Rattle.cayley.specs.Stored.{file_point}
 use Rattle.cayley.specs.Paths.{lower, least_coordinates, sum_of, reach}
 use Rattle.cayley.specs.Valid.{IsCoordinate}
-use Rattle.cayley.proofs.Lists.Each.{each_weaker, all_each}
+use Rattle.cayley.proofs.Lists.Each.{each_weaker, all_each, map_at}
 use Rattle.start_system.specs.Corners.{ArePoints}
 use Rattle.start_system.proofs.Path.Reach.{Long, length-least}
 use Rattle.start_system.proofs.Making.Entries.{take_next}
@@ -101,3 +103,14 @@ most_least a b h = omega (arith, ints, int_max_is a b, h)
 
 pub most_greatest : (a b : ℤ) → a ≤ℤ pos 32000000 → b ≤ℤ pos 32000000 → int_max a b ≤ℤ pos 32000000
 most_greatest a b h k = omega (arith, ints, int_max_is a b, h, k)
+
+-- ---- points as they are stored
+pub stored_at : (points : List StoredFilePoint) (c : ℕ) (x : StoredFilePoint) → c < length points → x ≡ get_or points c x
+    → file_point x ≡ get_or (map file_point points) c (file_point x)
+stored_at points c x l e = map_at file_point points c x (file_point x) e l
+
+pub stored_point : (n : ℕ) (points : List StoredFilePoint) (c : ℕ) (x : StoredFilePoint) → ArePoints n (map file_point points) → c < length points → x ≡ get_or points c x
+    → (length x.coords ≡ n) × Each x.coords IsCoordinate
+stored_point n points c x h l e =
+    subst (λ (y : FilePoint). (length y.coordinates ≡ n) × Each y.coordinates IsCoordinate) (sym (stored_at points c x l e))
+    (all_each _ (map file_point points) h.1 c (file_point x) (let k = length-map points file_point in omega (arith, k, l)))
