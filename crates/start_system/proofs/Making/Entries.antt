@@ -1,5 +1,5 @@
 -- lists that are made one entry after the other, sums of differences, and the entries of m + d e_k
-use Rattle.std.proofs.Common.{◌≡◌, ◌≢◌, ℕ, zero, suc, ◌+◌, ◌<◌, ◌≤◌, List, [], ◌∷◌, ◌++◌, length, take, drop, get_or, arith, refl, sym, ap, ap₂, ◌∙◌}
+use Rattle.std.proofs.Common.{◌≡◌, ◌≢◌, ℕ, zero, suc, ◌+◌, ◌<◌, ◌≤◌, List, [], ◌∷◌, ◌++◌, length, take, drop, get_or, append_assoc, arith, refl, sym, ap, ap₂, ◌∙◌}
 use Rattle.std.proofs.Math.IntN.{ℤ, pos, ◌+ℤ◌, ◌*ℤ◌, ◌-ℤ◌, neg_ℤ}
 use Rattle.std.proofs.Math.Seq.{take-suc}
 use Rattle.std.proofs.lemmas.Int.{ints}
@@ -19,6 +19,13 @@ next_taken whole made k e d h l r = ap₂ (λ xs y. xs ++ (y ∷ [])) h r ∙ sy
 
 pub last_taken : {A : Type 0} (whole made : List A) (k : ℕ) → made ≡ take k whole → length whole ≤ k → made ≡ whole
 last_taken whole made k h l = h ∙ take_all k whole l
+
+-- the same behind a list that stands
+pub more_behind : {A : Type 0} (whole before made : List A) (k : ℕ) (e d : A) → made ≡ before ++ take k whole → k < length whole → e ≡ get_or whole k d → made ++ (e ∷ []) ≡ before ++ take (k + 1) whole
+more_behind whole before made k e d h l r = ap (λ xs. xs ++ (e ∷ [])) h ∙ append_assoc before (take k whole) (e ∷ []) ∙ ap (λ xs. before ++ xs) (next_taken whole (take k whole) k e d refl l r)
+
+pub all_behind : {A : Type 0} (whole before made : List A) (k : ℕ) → made ≡ before ++ take k whole → length whole ≤ k → made ≡ before ++ whole
+all_behind whole before made k h l = h ∙ ap (λ xs. before ++ xs) (take_all k whole l)
 
 -- ---- the sum of differences
 abbrev pub left_sum : List ℤ → List ℤ → ℕ → ℤ

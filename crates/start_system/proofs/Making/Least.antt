@@ -1,6 +1,7 @@
 -- the least coordinates of points and the reach, one point after the other
-use Rattle.std.proofs.Common.{◌≡◌, ℕ, zero, suc, ◌+◌, ◌<◌, ◌≤◌, List, [], ◌∷◌, ◌++◌, length, map, take, get_or, arith, refl, sym, ap, ap₂, subst, ◌∙◌, ◌≤ℤ◌}
+use Rattle.std.proofs.Common.{◌≡◌, Bool, true, false, cond, Less, Equal, Greater, ℕ, zero, suc, ◌+◌, ◌<◌, ◌≤◌, List, [], ◌∷◌, ◌++◌, length, map, take, get_or, arith, refl, sym, ap, ap₂, subst, ◌∙◌, ◌≤ℤ◌}
 use Rattle.std.specs.Int.{int_min, int_max}
+use Rattle.std.specs.Ordering.{is_lt, int_cmp}
 use Rattle.std.proofs.Math.IntN.{ℤ, pos}
 use Rattle.std.proofs.lemmas.Int.{ints, int_min_is, int_max_is}
 use Rattle.std.proofs.lemmas.List.{length-take, length-map, take_all}
@@ -23,6 +24,15 @@ max_assoc a b c = omega (arith, ints, int_max_is b c, int_max_is a (int_max b c)
 
 max_turned : (a b : ℤ) → int_max a b ≡ int_max b a
 max_turned a b = omega (arith, ints, int_max_is a b, int_max_is b a)
+
+-- the greater of two numbers as the code has it
+chosen : (t u : Bool) (a b : ℤ) → cond (is_lt (cond t Less (cond u Greater Equal))) a b ≡ cond t a b
+chosen true u a b = refl
+chosen false true a b = refl
+chosen false false a b = refl
+
+pub max_chosen : (a b : ℤ) → cond (is_lt (int_cmp b a)) a b ≡ int_max a b
+max_chosen a b = chosen _ _ a b
 
 min_small : (a b : ℤ) → IsCoordinate a → IsCoordinate b → IsCoordinate (int_min a b)
 min_small a b h k = omega (arith, ints, int_min_is a b, h, k)
