@@ -1,0 +1,75 @@
+ghost use Rattle.std.specs.Prelude.{◌≡◌, ◌≤◌, suc, IfOk, length, map};
+ghost use Rattle.std.specs.List.{All};
+ghost use Rattle.cayley.specs.Files.{plain_problem};
+ghost use Rattle.cayley.specs.Paths.{path, path_supports, starts_of};
+ghost use Rattle.cayley.specs.Problems.{version2, file_points, IsStill};
+ghost use Rattle.cayley.specs.Stored.{file_point, point};
+ghost use Rattle.cayley.specs.Ties.{IsTieFree};
+ghost use Rattle.start_system.specs.Corners.{ArePoints};
+ghost use Rattle.start_system.specs.Started.{IsStarted, IsSearched};
+
+use crate::corners::path_points;
+use crate::lists::push;
+use crate::starts::default_starts;
+use cayley::{FilePoint, LiftFile, Problem, ShapeFault, Support};
+use std::alloc::Global;
+use wide_int::OutOfMemory;
+
+// The supports of a path: each has its file points, then its corners.
+fn path_supports(
+    alloc: Global,
+    supports: &[Vec<FilePoint>],
+    starts: &[Vec<i64>],
+) -> Result<Vec<Support>, OutOfMemory>
+    requires dimension { length supports.now ≤ 16 }
+    requires count { length starts.now ≡ length supports.now }
+    requires starts { All (λ s. suc (length s.items) ≡ length supports.now) starts.now }
+    requires counts { All (λ s. length s.items ≤ 1000) supports.now }
+    requires points { All (λ s. ArePoints (length supports.now) (map file_point s.items)) supports.now }
+    ensures files { IfOk result (λ made. map (λ s. s.file) made.items ≡ map (λ s. length s.items) supports.now) }
+    ensures points { IfOk result (λ made. map (λ s. map point s.points.items) made.items ≡ path_supports 1 (map (λ s. map file_point s.items) supports.now) (map (λ s. s.items) starts.now)) }
+{
+    let mut made = Vec::new(alloc);
+    for place in 0..supports.len() {
+        let points = path_points(alloc, place + 1, &supports[place], &starts[place])?;
+        let file = supports[place].len() as u32;
+        push(&mut made, Support { points, file })?;
+    }
+    Ok(made)
+}
+
+// The supports of the path of a file, with its start heights or the default ones.
+fn supports_of(alloc: Global, file: &LiftFile) -> Result<Vec<Support>, OutOfMemory>
+    ensures files { IfOk result (λ made. map (λ s. s.file) made.items ≡ map length file.now.supports) }
+    ensures points { IfOk result (λ made. map (λ s. map point s.points.items) made.items ≡ path_supports 1 file.now.supports (starts_of file.now)) }
+{
+    match file.starts() {
+        Some(starts) => path_supports(alloc, file.supports(), starts),
+        None => {
+            let starts = default_starts(alloc, file.dim())?;
+            path_supports(alloc, file.supports(), &starts)
+        }
+    }
+}
+
+/// The path of a file, in the file's version: in each support the file points with speed 0, then
+/// the n + 1 corners with speed 1, which have the file's start heights or the default ones.
+///
+/// The corners of support i are the least coordinates m of its file points and, for each direction
+/// k, the point m + d e_k, where d is the greater of 1 and the greatest sum of the coordinates of
+/// a file point less m. The start height of m and of direction i is 0.
+pub fn with_corners(alloc: Global, file: &LiftFile) -> Result<Problem, OutOfMemory>
+    ensures path { IfOk result (λ p. p ≡ path file.now) }
+    ensures started { IfOk result IsStarted }
+    ensures still { IfOk result IsStill }
+    ensures points { IfOk result (λ p. file_points p ≡ plain_problem file.now) }
+    ensures searched { IfOk result IsSearched }
+    ensures free { file.now.version ≡ version2 → IfOk result IsTieFree }
+{
+    let supports = supports_of(alloc, file)?;
+    match Problem::new(alloc, file.dim(), supports) {
+        Ok(problem) => Ok(problem),
+        Err(ShapeFault::OutOfMemory) => Err(OutOfMemory),
+        Err(_) => unreachable!(),
+    }
+}
