@@ -5,4 +5,5 @@ pub mod Complete
 pub mod Perturbed
 pub mod Started
 pub mod Making
+pub mod Judging
 mod Worked
