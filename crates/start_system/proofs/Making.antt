@@ -3,3 +3,5 @@ pub mod Entries
 pub mod Numbers
 pub mod Least
 pub mod Directions
+pub mod Limits
+pub mod Parts

@@ -11,6 +11,13 @@ use Rattle.cayley.specs.Valid.{IsCoordinate, file_count_at, support_at}
 abbrev pub ArePoints : ℕ → List FilePoint → Type 0
 ArePoints n points = (1 ≤ length points) × Each points (λ x. (length x.coordinates ≡ n) × Each x.coordinates IsCoordinate)
 
+-- n supports of file points, and for each of them n - 1 start heights
+pub record ArePathParts (supports : List (List FilePoint)) (starts : List (List ℤ)) : Type 0 where
+  pub dimension : length supports ≤ 16
+  pub count : length starts ≡ length supports
+  pub heights : Each starts (λ s. suc (length s) ≡ length supports)
+  pub points : Each supports (λ s. (length s ≤ 1000) × ArePoints (length supports) s)
+
 -- the file points of support i of a problem, as a file has them
 abbrev pub points_at : Problem → ℕ → List FilePoint
 points_at p i = map held (take (file_count_at p i) (support_at p i))

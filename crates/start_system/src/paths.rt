@@ -1,11 +1,10 @@
-ghost use Rattle.std.specs.Prelude.{◌≡◌, ◌≤◌, suc, IfOk, length, map};
-ghost use Rattle.std.specs.List.{All};
+ghost use Rattle.std.specs.Prelude.{◌≡◌, IfOk, length, map};
 ghost use Rattle.cayley.specs.Files.{plain_problem};
 ghost use Rattle.cayley.specs.Paths.{path, path_supports, starts_of};
 ghost use Rattle.cayley.specs.Problems.{version2, file_points, IsStill};
 ghost use Rattle.cayley.specs.Stored.{file_point, point};
 ghost use Rattle.cayley.specs.Ties.{IsTieFree};
-ghost use Rattle.start_system.specs.Corners.{ArePoints};
+ghost use Rattle.start_system.specs.Corners.{ArePathParts};
 ghost use Rattle.start_system.specs.Started.{IsStarted, IsSearched};
 
 use crate::corners::path_points;
@@ -21,11 +20,7 @@ fn path_supports(
     supports: &[Vec<FilePoint>],
     starts: &[Vec<i64>],
 ) -> Result<Vec<Support>, OutOfMemory>
-    requires dimension { length supports.now ≤ 16 }
-    requires count { length starts.now ≡ length supports.now }
-    requires starts { All (λ s. suc (length s.items) ≡ length supports.now) starts.now }
-    requires counts { All (λ s. length s.items ≤ 1000) supports.now }
-    requires points { All (λ s. ArePoints (length supports.now) (map file_point s.items)) supports.now }
+    requires { ArePathParts (map (λ s. map file_point s.items) supports.now) (map (λ s. s.items) starts.now) }
     ensures files { IfOk result (λ made. map (λ s. s.file) made.items ≡ map (λ s. length s.items) supports.now) }
     ensures points { IfOk result (λ made. map (λ s. map point s.points.items) made.items ≡ path_supports 1 (map (λ s. map file_point s.items) supports.now) (map (λ s. s.items) starts.now)) }
 {

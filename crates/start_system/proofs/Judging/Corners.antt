@@ -89,6 +89,7 @@ module _ (n own f : ℕ) (s : List Point) (lo : own < n) where
   from_list : (xs : List Point) → length xs ≡ suc n → Each xs (λ (x : Point). x.speed ≡ pos 1) → IsFirstOf points (from_zero xs 0)
       → ((k : ℕ) → k < n → IsDirectionOf m d own k (from_zero xs (suc k)))
       → (starts : List ℤ) × (length starts ≡ n - 1) × Each starts (λ z. pos 1 ≤ℤ z) × (map (with_rank 0) xs ≡ corners (suc own) points starts)
+  unfolding Directed
   from_list [] e s h g = absurd (omega arith)
   from_list (x ∷ xs) e s h g =
       let r = directed_from m d own 0 xs (omega (arith, e, lo)) s.1 (λ k l. let q : k ≡ 0 + k = omega arith in let w = g k (omega (arith, l, e)) in (w.0 ∙ ap (λ i. add m (at_place i d)) q, w.1, w.2)) in (

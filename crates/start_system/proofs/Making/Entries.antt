@@ -31,7 +31,7 @@ all_behind whole before made k h l = h ∙ ap (λ xs. before ++ xs) (take_all k 
 abbrev pub left_sum : List ℤ → List ℤ → ℕ → ℤ
 left_sum x m k = sum_of (sub (drop k x) (drop k m))
 
-left_first : (x m : ℤ) → x +ℤ neg_ℤ (pos 1) *ℤ m ≡ x -ℤ m
+pub left_first : (x m : ℤ) → x +ℤ neg_ℤ (pos 1) *ℤ m ≡ x -ℤ m
 left_first x m = omega (arith, ints)
 
 left_next : (x m : List ℤ) (k : ℕ) → length x ≡ length m → k < length x → left_sum x m k ≡ (at x k -ℤ at m k) +ℤ left_sum x m (suc k)

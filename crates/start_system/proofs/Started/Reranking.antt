@@ -64,7 +64,7 @@ bare_first [] supports = refl
 bare_first (f ∷ files) [] = refl
 bare_first (f ∷ files) (s ∷ supports) = ap₂ (λ (y : List Point) (ys : List (List Point)). y ∷ ys) (map_take (with_rank 0) f s) (bare_first files supports)
 
-taken : (s : List FilePoint) (ys : List Point) → take (length s) (map resting s ++ ys) ≡ map resting s
+pub taken : (s : List FilePoint) (ys : List Point) → take (length s) (map resting s ++ ys) ≡ map resting s
 taken [] [] = refl
 taken [] (y ∷ ys) = refl
 taken (x ∷ s) ys = ap (λ (zs : List Point). resting x ∷ zs) (taken s ys)
