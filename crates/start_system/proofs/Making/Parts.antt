@@ -5,9 +5,11 @@ use Rattle.std.proofs.lemmas.List.{length-map, map-append}
 use Rattle.int_vectors.specs.Vectors.{Each}
 use Rattle.cayley.specs.Problems.{Point}
 use Rattle.cayley.specs.Files.{FilePoint, File, resting}
+use Rattle.cayley.specs.declared.points.FilePoint.{FilePoint as StoredFilePoint}
+use Rattle.cayley.specs.Stored.{file_point}
 use Rattle.cayley.specs.Paths.{corners, path_supports, starts_of}
 use Rattle.cayley.specs.Valid.{IsCoordinate, IsValidFile, IsWithinFile}
-use Rattle.cayley.proofs.Lists.Each.{all_each, each_unmap, each_both, each_weaker, map_at}
+use Rattle.cayley.proofs.Lists.Each.{all_each, each_unmap, each_both, each_weaker, map_at, map_map, map_same}
 use Rattle.start_system.specs.Corners.{ArePoints, ArePathParts}
 use Rattle.start_system.proofs.Path.Supports.{AreHeights}
 use Rattle.start_system.proofs.Started.Heights.{valid_lift}
@@ -86,3 +88,11 @@ parts_of file v =
       heights = each_weaker (AreHeights file.dimension) (λ s. suc (length s) ≡ length file.supports) (starts_of file) (λ s k. k.0 ∙ sym n) lift.heights;
       points = subst (λ (m : ℕ). Each file.supports (λ s. (length s ≤ 1000) × ArePoints m s)) (sym n) (all_points file.dimension file.supports v.shape.counts v.shape.points v.limits);
     }
+
+pub counts_of : {X : Type 0} (items : X → List StoredFilePoint) (xs : List X) (supports : List (List FilePoint)) → map (λ s. map file_point (items s)) xs ≡ supports → map (λ s. length (items s)) xs ≡ map length supports
+counts_of items xs supports is =
+    map_same (λ s. length (items s)) (λ s. length (map file_point (items s))) (λ s. sym (length-map (items s) file_point)) xs
+    ∙ sym (map_map length (λ s. map file_point (items s)) xs) ∙ ap (map length) is
+
+pub same_parts : {a b : List (List FilePoint)} {s t : List (List ℤ)} → a ≡ b → s ≡ t → ArePathParts b t → ArePathParts a s
+same_parts {a} {b} {s} {t} e f h = subst (λ x. ArePathParts x s) (sym e) (subst (λ x. ArePathParts b x) (sym f) h)
