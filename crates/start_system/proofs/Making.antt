@@ -5,3 +5,5 @@ pub mod Least
 pub mod Directions
 pub mod Limits
 pub mod Parts
+pub mod ValidPaths
+pub mod NoFaults

@@ -4,6 +4,8 @@ ghost use Rattle.cayley.specs.Paths.{path, path_supports, starts_of};
 ghost use Rattle.cayley.specs.Problems.{version2, file_points, IsStill};
 ghost use Rattle.cayley.specs.Stored.{file_point, point};
 ghost use Rattle.cayley.specs.Ties.{IsTieFree};
+ghost use Rattle.cayley.specs.Valid.{IsValidFile};
+ghost use Rattle.cayley.specs.declared.faults.ShapeFault.{ShapeFault};
 ghost use Rattle.start_system.specs.Corners.{ArePathParts};
 ghost use Rattle.start_system.specs.Started.{IsStarted, IsSearched};
 
@@ -47,6 +49,29 @@ fn supports_of(alloc: Global, file: &LiftFile) -> Result<Vec<Support>, OutOfMemo
     }
 }
 
+// The one fault that a path can meet.
+fn memory_fault(fault: ShapeFault) -> OutOfMemory
+    requires { fault ≡ ShapeFault.OutOfMemory }
+{
+    match fault {
+        ShapeFault::OutOfMemory => OutOfMemory,
+        _ => unreachable!(),
+    }
+}
+
+// The problem of the supports of a file's path.
+fn path_of(alloc: Global, file: &LiftFile, supports: Vec<Support>) -> Result<Problem, OutOfMemory>
+    requires files { map (λ s. s.file) supports.items ≡ map length file.now.supports }
+    requires points { map (λ s. map point s.points.items) supports.items ≡ path_supports 1 file.now.supports (starts_of file.now) }
+    ensures path { IfOk result (λ p. p ≡ path file.now) }
+    ensures valid { IsValidFile file.now }
+{
+    match Problem::new(alloc, file.dim(), supports) {
+        Ok(problem) => Ok(problem),
+        Err(fault) => Err(memory_fault(fault)),
+    }
+}
+
 /// The path of a file, in the file's version: in each support the file points with speed 0, then
 /// the n + 1 corners with speed 1, which have the file's start heights or the default ones.
 ///
@@ -62,9 +87,5 @@ pub fn with_corners(alloc: Global, file: &LiftFile) -> Result<Problem, OutOfMemo
     ensures free { file.now.version ≡ version2 → IfOk result IsTieFree }
 {
     let supports = supports_of(alloc, file)?;
-    match Problem::new(alloc, file.dim(), supports) {
-        Ok(problem) => Ok(problem),
-        Err(ShapeFault::OutOfMemory) => Err(OutOfMemory),
-        Err(_) => unreachable!(),
-    }
+    path_of(alloc, file, supports)
 }

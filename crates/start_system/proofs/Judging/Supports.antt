@@ -32,7 +32,7 @@ each_taken P zero xs h = tt
 each_taken P (suc f) [] h = tt
 each_taken P (suc f) (x ∷ xs) h = (h.0, each_taken P f xs h.1)
 
-corners_long : (p : Problem) → HasCorners p → length p.files ≡ length p.supports
+pub corners_long : (p : Problem) → HasCorners p → length p.files ≡ length p.supports
 corners_long p (inl h) = each_support_long _ 1 p.files p.supports h
 corners_long p (inr h) = each_support_long _ 1 p.files p.supports h
 
