@@ -1,5 +1,5 @@
 -- the supports of a path, one after the other, and the parts that a file gives
-use Rattle.std.proofs.Common.{◌≡◌, ℕ, zero, suc, ◌+◌, ◌-◌, ◌<◌, ◌≤◌, List, [], ◌∷◌, ◌++◌, length, map, take, get_or, arith, refl, sym, ap, ap₂, subst, ◌∙◌}
+use Rattle.std.proofs.Common.{◌≡◌, ℕ, zero, suc, ◌+◌, ◌-◌, ◌<◌, ◌≤◌, List, [], ◌∷◌, ◌++◌, length, map, take, get_or, Result, Ok, Err, IfOk, arith, refl, sym, ap, ap₂, subst, ◌∙◌}
 use Rattle.std.proofs.Math.IntN.{ℤ}
 use Rattle.std.proofs.lemmas.List.{length-map, map-append}
 use Rattle.int_vectors.specs.Vectors.{Each}
@@ -96,3 +96,8 @@ counts_of items xs supports is =
 
 pub same_parts : {a b : List (List FilePoint)} {s t : List (List ℤ)} → a ≡ b → s ≡ t → ArePathParts b t → ArePathParts a s
 same_parts {a} {b} {s} {t} e f h = subst (λ x. ArePathParts x s) (sym e) (subst (λ x. ArePathParts b x) (sym f) h)
+
+-- ---- what holds of an answer
+pub if_ok_weaker : {A E : Type 0} (r : Result A E) (P Q : A → Type 0) → ((x : A) → P x → Q x) → IfOk r P → IfOk r Q
+if_ok_weaker (Ok x) P Q f h = f x h
+if_ok_weaker (Err e) P Q f h = h
