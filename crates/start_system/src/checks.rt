@@ -2,7 +2,7 @@ ghost use Rattle.std.specs.Prelude.{◌≡◌, ◌≢◌, ◌<◌, ◌≤◌, �
 ghost use Rattle.int_vectors.specs.Vectors.{Each, at};
 ghost use Rattle.cayley.specs.Paths.{least_coordinates, reach};
 ghost use Rattle.cayley.specs.Stored.{point};
-ghost use Rattle.cayley.specs.Valid.{IsCoordinate, file_count_at, support_at};
+ghost use Rattle.cayley.specs.Valid.{IsCoordinate, IsValidProblem, file_count_at, support_at};
 ghost use Rattle.start_system.specs.Corners.{points_at, first_corner_at, IsFirstOf, IsDirectionOf, HasPathCorners};
 ghost use Rattle.start_system.specs.Started.{IsStarted};
 
@@ -12,6 +12,7 @@ use int_vectors::IntVec;
 
 // The least coordinate of the file points of support i at a place, which counts from 0.
 fn least_at(problem: &Problem, i: u32, k: usize) -> i128
+    requires valid { IsValidProblem problem.now }
     requires least { 1 ≤ i }
     requires greatest { i ≤ problem.now.dimension }
     requires place { k < problem.now.dimension }
@@ -24,8 +25,15 @@ fn least_at(problem: &Problem, i: u32, k: usize) -> i128
     least
 }
 
+fn is_zero(base: i64) -> bool
+    ensures { IsTrue result ↔ base ≡ pos 0 }
+{
+    base == 0
+}
+
 // Whether the corner is a first one of support i: at the least coordinates, with the height 0.
 fn is_first(problem: &Problem, i: u32, corner: &Point) -> bool
+    requires valid { IsValidProblem problem.now }
     requires least { 1 ≤ i }
     requires greatest { i ≤ problem.now.dimension }
     requires length { length corner.now.coords ≡ problem.now.dimension }
@@ -36,11 +44,12 @@ fn is_first(problem: &Problem, i: u32, corner: &Point) -> bool
             return false;
         }
     }
-    corner.base == 0
+    is_zero(corner.base)
 }
 
 // How far from m the corners of the directions of support i stand.
 fn reach(problem: &Problem, i: u32, m: &IntVec) -> i128
+    requires valid { IsValidProblem problem.now }
     requires least { 1 ≤ i }
     requires greatest { i ≤ problem.now.dimension }
     requires length { length m.now ≡ problem.now.dimension }
@@ -81,6 +90,7 @@ fn is_direction(corner: &Point, m: &IntVec, d: i128, own: usize, k: usize) -> bo
 
 // Whether support i has the corners of a path.
 fn has_path_corners(problem: &Problem, i: u32) -> bool
+    requires valid { IsValidProblem problem.now }
     requires least { 1 ≤ i }
     requires greatest { i ≤ problem.now.dimension }
     ensures { IsTrue result ↔ HasPathCorners problem.now.dimension i (file_count_at problem.now i) (support_at problem.now i) }

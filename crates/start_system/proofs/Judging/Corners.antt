@@ -139,3 +139,30 @@ module _ (n own f : ℕ) (s : List Point) (lo : own < n) where
           (λ z. ap (λ (x : Point). x.base) q ∙ w.2 z),
           (λ z. subst (λ (b : ℤ). pos 1 ≤ℤ b) (sym (ap (λ (x : Point). x.base) q)) (let u = w.3 z in omega (arith, ints, u))),
         )
+
+-- ---- with m and d as they are computed, and the support counted from 1
+module _ (n i f : ℕ) (s : List Point) (m : List ℤ) (d : ℤ) (li : 1 ≤ i) (lo : i ≤ n) (mi : m ≡ least_coordinates (map held (take f s))) (di : d ≡ reach m (map held (take f s))) where
+  same_reach : d ≡ reach (least_coordinates (map held (take f s))) (map held (take f s))
+  same_reach = di ∙ ap (λ v. reach v (map held (take f s))) mi
+
+  own_back : suc (i - 1) ≡ i
+  own_back = omega (arith, li)
+
+  as_computed : (k : ℕ) (x : Point) → IsDirectionOf (least_coordinates (map held (take f s))) (reach (least_coordinates (map held (take f s))) (map held (take f s))) (i - 1) k x → IsDirectionOf m d (i - 1) k x
+  as_computed k x h = subst (λ v. IsDirectionOf v d (i - 1) k x) (sym mi) (subst (λ e. IsDirectionOf (least_coordinates (map held (take f s))) e (i - 1) k x) (sym same_reach) h)
+
+  as_defined : (k : ℕ) (x : Point) → IsDirectionOf m d (i - 1) k x → IsDirectionOf (least_coordinates (map held (take f s))) (reach (least_coordinates (map held (take f s))) (map held (take f s))) (i - 1) k x
+  as_defined k x h = subst (λ e. IsDirectionOf (least_coordinates (map held (take f s))) e (i - 1) k x) same_reach (subst (λ v. IsDirectionOf v d (i - 1) k x) mi h)
+
+  pub to_direction : HasPathCorners n i f s → (k : ℕ) → k < n → IsDirectionOf m d (i - 1) k (point_at s (suc (f + suc k)))
+  to_direction h k l = as_computed k _ (directions_there n (i - 1) f s (omega (arith, li, lo)) (subst (λ j. HasPathCorners n j f s) (sym own_back) h) k l)
+
+  pub from_directions : length s ≡ f + (n + 1) → Each (drop f s) (λ (x : Point). x.speed ≡ pos 1) → IsFirstOf (map held (take f s)) (point_at s (suc f))
+      → ((k : ℕ) → k < n → IsDirectionOf m d (i - 1) k (point_at s (suc (f + suc k)))) → HasPathCorners n i f s
+  from_directions e sp h g = subst (λ j. HasPathCorners n j f s) own_back (corners_from n (i - 1) f s (omega (arith, li, lo)) e sp h (λ k l. as_defined k _ (g k l)))
+
+pub first_of : (n i f : ℕ) (s : List Point) → 1 ≤ i → i ≤ n → HasPathCorners n i f s → (f < length s) × IsFirstOf (map held (take f s)) (point_at s (suc f))
+first_of n i f s li lo h =
+    let o : i ≡ suc (i - 1) = omega (arith, li) in
+    let w = subst (λ j. HasPathCorners n j f s) o h in
+    (corners_there n (i - 1) f s (omega (arith, li, lo)) w, first_there n (i - 1) f s (omega (arith, li, lo)) w)

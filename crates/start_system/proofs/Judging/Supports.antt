@@ -1,5 +1,5 @@
 -- what holds of one support of a valid problem
-use Rattle.std.proofs.Common.{◌≡◌, ◌⊎◌, ℕ, zero, suc, ◌+◌, ◌-◌, ◌<◌, ◌≤◌, List, [], ◌∷◌, length, map, take, get_or, arith, refl, sym, ap, subst, ◌∙◌, inl, inr}
+use Rattle.std.proofs.Common.{◌≡◌, ◌⊎◌, ℕ, zero, suc, ◌+◌, ◌-◌, ◌<◌, ◌≤◌, List, [], ◌∷◌, length, map, take, drop, get_or, arith, refl, sym, ap, subst, ◌∙◌, inl, inr}
 use Rattle.std.proofs.Math.IntN.{ℤ, pos}
 use Rattle.std.proofs.lemmas.List.{length-take, length-map}
 use Rattle.int_vectors.specs.Vectors.{Each}
@@ -85,3 +85,19 @@ count_points p i h =
     let a = length-map (take (file_count_at p i) (support_at p i)) held in
     let b = length-take (file_count_at p i) (support_at p i) in
     omega (arith, a, b, f)
+
+pub checked_point : (p : Problem) (i : ℕ) → SupportAt p i → (c : ℕ) (x : Point) → c < file_count_at p i → x ≡ point_at (support_at p i) (c + 1) → (length x.coordinates ≡ p.dimension) × Each x.coordinates IsCoordinate
+checked_point p i h c x l e =
+    let n = count_points p i h in
+    subst (λ (y : FilePoint). (length y.coordinates ≡ p.dimension) × Each y.coordinates IsCoordinate)
+    (sym (held_at (file_count_at p i) (support_at p i) c x (file_first p i h) l e)) (all_each _ (points_at p i) h.points.1 c (held x) (omega (arith, n, l)))
+
+pub with_corners_there : (p : Problem) (i : ℕ) → SupportAt p i → file_count_at p i < length (support_at p i) → length (support_at p i) ≡ file_count_at p i + (p.dimension + 1)
+with_corners_there p i h l = by h.corners
+  where
+    by : (length (support_at p i) ≡ file_count_at p i) ⊎ (length (support_at p i) ≡ file_count_at p i + (p.dimension + 1)) → length (support_at p i) ≡ file_count_at p i + (p.dimension + 1)
+    by (inl e) = absurd (omega (arith, e, l))
+    by (inr e) = e
+
+pub moving_at : (p : Problem) → IsValidProblem p → (i : ℕ) → 1 ≤ i → i ≤ p.dimension → Each (drop (file_count_at p i) (support_at p i)) (λ (x : Point). x.speed ≡ pos 1)
+moving_at p v i l m = let ns = v.shape.problem.supports in each_support_at _ 1 p.files p.supports v.shape.moving (i - 1) 0 [] (omega (arith, l, m, ns))

@@ -69,6 +69,10 @@ taken_long n zero points w = tt
 taken_long n (suc c) [] w = tt
 taken_long n (suc c) (x ∷ points) w = (w.0, taken_long n c points w.1)
 
+pub least_first : (k : ℕ) (points : List FilePoint) (x : FilePoint) → 0 < length points → x ≡ get_or points 0 x → at x.coordinates k ≡ at (least_coordinates (take 1 points)) k
+least_first k [] x l e = absurd (omega arith)
+least_first k (y ∷ points) x l e = ap (λ (z : FilePoint). at z.coordinates k) e
+
 pub least_more : (n k c : ℕ) (points : List FilePoint) (x : FilePoint) (least : ℤ) → ArePoints n points → k < n → 1 ≤ c → c < length points → x ≡ get_or points c x
     → least ≡ at (least_coordinates (take c points)) k → int_min least (at x.coordinates k) ≡ at (least_coordinates (take (c + 1) points)) k
 least_more n k c points x least h m l b is e =
