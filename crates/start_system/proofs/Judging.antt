@@ -2,3 +2,4 @@
 pub mod Supports
 pub mod StartPairs
 pub mod Corners
+pub mod StartedProblems

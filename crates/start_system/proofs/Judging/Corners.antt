@@ -1,5 +1,6 @@
 -- the corners of a support are those of a path exactly where each one alone is
-use Rattle.std.proofs.Common.{◌≡◌, ◌≢◌, ℕ, zero, suc, ◌+◌, ◌-◌, ◌<◌, ◌≤◌, List, [], ◌∷◌, length, map, take, drop, get_or, arith, refl, sym, ap, subst, ◌∙◌, ◌≤ℤ◌, ◌<ℤ◌}
+use Rattle.std.proofs.Common.{◌≡◌, ◌≢◌, true, false, ℕ, zero, suc, ◌+◌, ◌-◌, ◌<◌, ◌≤◌, List, [], ◌∷◌, length, map, take, drop, get_or, arith, refl, sym, ap, subst, ◌∙◌, ◌≤ℤ◌, ◌<ℤ◌}
+use native.Mathlib.Decide.{ℕ_discrete}
 use Rattle.std.proofs.Math.IntN.{ℤ, pos}
 use Rattle.std.proofs.lemmas.Int.{ints}
 use Rattle.std.proofs.lemmas.List.{length-map, length-drop}
@@ -155,14 +156,24 @@ module _ (n i f : ℕ) (s : List Point) (m : List ℤ) (d : ℤ) (li : 1 ≤ i) 
   as_defined k x h = subst (λ e. IsDirectionOf (least_coordinates (map held (take f s))) e (i - 1) k x) same_reach (subst (λ v. IsDirectionOf v d (i - 1) k x) mi h)
 
   pub to_direction : HasPathCorners n i f s → (k : ℕ) → k < n → IsDirectionOf m d (i - 1) k (point_at s (suc (f + suc k)))
-  to_direction h k l = as_computed k _ (directions_there n (i - 1) f s (omega (arith, li, lo)) (subst (λ j. HasPathCorners n j f s) (sym own_back) h) k l)
+  to_direction h k l = as_computed k (point_at s (suc (f + suc k))) (directions_there n (i - 1) f s (omega (arith, li, lo)) (subst (λ j. HasPathCorners n j f s) (sym own_back) h) k l)
 
   pub from_directions : length s ≡ f + (n + 1) → Each (drop f s) (λ (x : Point). x.speed ≡ pos 1) → IsFirstOf (map held (take f s)) (point_at s (suc f))
       → ((k : ℕ) → k < n → IsDirectionOf m d (i - 1) k (point_at s (suc (f + suc k)))) → HasPathCorners n i f s
-  from_directions e sp h g = subst (λ j. HasPathCorners n j f s) own_back (corners_from n (i - 1) f s (omega (arith, li, lo)) e sp h (λ k l. as_defined k _ (g k l)))
+  from_directions e sp h g = subst (λ j. HasPathCorners n j f s) own_back (corners_from n (i - 1) f s (omega (arith, li, lo)) e sp h (λ k l. as_defined k (point_at s (suc (f + suc k))) (g k l)))
 
 pub first_of : (n i f : ℕ) (s : List Point) → 1 ≤ i → i ≤ n → HasPathCorners n i f s → (f < length s) × IsFirstOf (map held (take f s)) (point_at s (suc f))
 first_of n i f s li lo h =
     let o : i ≡ suc (i - 1) = omega (arith, li) in
     let w = subst (λ j. HasPathCorners n j f s) o h in
     (corners_there n (i - 1) f s (omega (arith, li, lo)) w, first_there n (i - 1) f s (omega (arith, li, lo)) w)
+
+-- ---- a loop over the directions
+pub no_true : false ≡ true → ⊥
+no_true e = cc
+
+pub next_direction : (P : ℕ → Type 0) (k : ℕ) → ((j : ℕ) → j < k → P j) → P k → (j : ℕ) → j < k + 1 → P j
+next_direction P k h p j l = elim (ℕ_discrete j k) [
+  | yes e ↦ subst P (sym e) p
+  | no n ↦ h j (omega (arith, l, n))
+]

@@ -1,4 +1,5 @@
-use Rattle.std.proofs.Common.{rules, ◌≡◌, ◌∙◌, ◌<◌, sym, arith, length}
+use Rattle.std.proofs.Common.{rules, ◌≡◌, ◌∙◌, ◌<◌, sym, arith, length, FitsSigned, w64}
+use Rattle.std.proofs.Math.Facts.{to_z-of_z}
 use Rattle.cayley.specs.Paths.{least_coordinates}
 use Rattle.start_system.specs.Corners.{points_at}
 use Rattle.start_system.proofs.Judging.Supports.{support_of}
@@ -14,4 +15,6 @@ returns c =
     let l = c.requires.length in
     let e = c.dim-k-end.ensures.value in
     let n = c.loop-k-test.false in
-    (λ t. (all_equal c.args.corner.now.coords (least_coordinates points) (l ∙ sym (least_long p.dimension points h.points)) (λ j b. c.loop-k.invariant j (omega (arith, e, n, b, l))), c.is_zero.ensures.0 t), λ w. c.is_zero.ensures.1 w.1)
+    let g : FitsSigned w64 c.args.corner.now.base = search rules in
+    let z = simp to_z-of_z at c.is_zero.ensures in
+    (λ t. (all_equal c.args.corner.now.coords (least_coordinates points) (l ∙ sym (least_long p.dimension points h.points)) (λ j b. c.loop-k.invariant j (omega (arith, e, n, b, l))), z.0 t), λ w. z.1 w.1)

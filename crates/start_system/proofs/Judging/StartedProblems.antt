@@ -1,0 +1,77 @@
+-- a valid problem is started exactly where each support has the corners of a path
+use Rattle.std.proofs.Common.{◌≡◌, ◌⊎◌, ℕ, zero, suc, ◌+◌, ◌-◌, ◌<◌, ◌≤◌, List, [], ◌∷◌, ◌++◌, Some, length, map, take, drop, get_or, take-append-drop, arith, refl, sym, ap, ap₂, subst, ◌∙◌, inl, inr, ◌≤ℤ◌}
+use Rattle.std.proofs.Math.IntN.{ℤ, pos}
+use Rattle.std.proofs.lemmas.List.{length-map, length-take, map-append}
+use Rattle.int_vectors.specs.Vectors.{Each}
+use Rattle.cayley.specs.Problems.{Point, Problem, EachSupport, with_rank, first_points, ranked_supports}
+use Rattle.cayley.specs.Files.{FilePoint, File, resting}
+use Rattle.cayley.specs.Stored.{held}
+use Rattle.cayley.specs.Paths.{corner, corners, later_corners, direction_corners, path_supports, path}
+use Rattle.cayley.specs.Valid.{IsValidProblem, support_at, file_count_at}
+use Rattle.cayley.proofs.Lists.Each.{map_map, map_drop, same_read}
+use Rattle.cayley.proofs.Lists.Supports.{each_support_at, each_support_from}
+use Rattle.start_system.specs.Corners.{HasPathCorners}
+use Rattle.start_system.specs.Started.{AreStarts, file_with, IsStarted}
+use Rattle.start_system.proofs.Started.Reranking.{same_ranked, bare_ranked}
+use Rattle.start_system.proofs.Judging.Supports.{corners_long}
+
+abbrev bare : List Point → List Point
+bare s = map (with_rank 0) s
+
+-- what is used of a support: it has its file points, these rest, and its corners are those of a path
+abbrev Cornered : ℕ → ℕ → ℕ → List Point → Type 0
+Cornered n i f s = (f ≤ length s) × Each (take f s) (λ (x : Point). x.speed ≡ pos 0) × HasPathCorners n i f s
+
+rested : (s : List Point) → Each s (λ (x : Point). x.speed ≡ pos 0) → bare s ≡ map resting (map held s)
+rested [] h = refl
+rested (x ∷ s) h = λ i. record { coordinates = x.coordinates; base = x.base; speed = h.0 i; rank = 0 } ∷ rested s h.1 i
+
+whole : (n i f : ℕ) (s : List Point) → (h : Cornered n i f s) → bare s ≡ map resting (map held (take f s)) ++ corners i (map held (take f s)) h.2.0
+whole n i f s h =
+    ap bare (sym (take-append-drop f s)) ∙ map-append (with_rank 0) (take f s) (drop f s) ∙ ap₂ (λ (xs ys : List Point). xs ++ ys) (rested (take f s) h.1) h.2.3
+
+all_starts : (n i : ℕ) (files : List ℕ) (supports : List (List Point)) → EachSupport i files supports (Cornered n)
+    → (starts : List (List ℤ)) × (length starts ≡ length supports) × Each starts (λ s. (length s ≡ n - 1) × Each s (λ z. pos 1 ≤ℤ z))
+    × (map bare supports ≡ path_supports i (map (map held) (first_points files supports)) starts)
+    × (map length (map (map held) (first_points files supports)) ≡ files)
+all_starts n i [] [] h = ([], refl, tt, refl, refl)
+all_starts n i [] (s ∷ supports) h = absurd h
+all_starts n i (f ∷ files) [] h = absurd h
+all_starts n i (f ∷ files) (s ∷ supports) h =
+    let r = all_starts n (suc i) files supports h.1 in
+    let c = h.0.2 in
+    let lf = h.0.0 in
+    let a = length-map (take f s) held in
+    let b = length-take f s in (
+      c.0 ∷ r.0,
+      ap suc r.1,
+      ((c.1, c.2), r.2),
+      ap₂ (λ (x : List Point) (xs : List (List Point)). x ∷ xs) (whole n i f s h.0) r.3,
+      ap₂ (λ (x : ℕ) (xs : List ℕ). x ∷ xs) (omega (arith, a, b, lf)) r.4,
+    )
+
+bare_all : (supports : List (List Point)) → map bare (map bare supports) ≡ map bare supports
+bare_all [] = refl
+bare_all (s ∷ supports) = ap₂ (λ (x : List Point) (xs : List (List Point)). x ∷ xs) (map_map (with_rank 0) (with_rank 0) s) (bare_all supports)
+
+-- with corners in each support the problem is started
+pub started_by : (p : Problem) → IsValidProblem p → EachSupport 1 p.files p.supports (Cornered p.dimension) → IsStarted p
+started_by p v h =
+    let r = all_starts p.dimension 1 p.files p.supports h in
+    let starts = r.0 in
+    let supports = map (map held) (first_points p.files p.supports) in
+    let plain = path_supports 1 supports starts in
+    let same : map bare p.supports ≡ map bare plain = sym (bare_all p.supports) ∙ ap (map bare) r.3 in
+    let ranked : p.supports ≡ ranked_supports p.version (map length supports) plain =
+        v.ranks ∙ same_ranked p.version p.files p.supports plain same ∙ ap (λ files. ranked_supports p.version files plain) (sym r.4) in
+    (starts, (r.1 ∙ v.shape.problem.supports, r.2), λ i. record { version = p.version; dimension = p.dimension; files = sym r.4 i; supports = ranked i })
+
+-- ---- and back
+bare_later : (m : List ℤ) (d : ℤ) (k : ℕ) (starts : List ℤ) → bare (later_corners m d k starts) ≡ later_corners m d k starts
+bare_later m d k [] = refl
+bare_later m d k (z ∷ starts) = ap (λ (xs : List Point). _ ∷ xs) (bare_later m d (suc k) starts)
+
+bare_directions : (m : List ℤ) (d : ℤ) (own k : ℕ) (starts : List ℤ) → bare (direction_corners m d own k starts) ≡ direction_corners m d own k starts
+bare_directions m d zero k starts = ap (λ (xs : List Point). _ ∷ xs) (bare_later m d (suc k) starts)
+bare_directions m d (suc own) k [] = refl
+bare_directions m d (suc own) k (z ∷ starts) = ap (λ (xs : List Point). _ ∷ xs) (bare_directions m d own (suc k) starts)
