@@ -2,18 +2,19 @@
 use Rattle.std.proofs.Common.{◌≡◌, ◌⊎◌, ℕ, zero, suc, ◌+◌, ◌-◌, ◌<◌, ◌≤◌, List, [], ◌∷◌, ◌++◌, Some, length, map, take, drop, get_or, take-append-drop, arith, refl, sym, ap, ap₂, subst, ◌∙◌, inl, inr, ◌≤ℤ◌}
 use Rattle.std.proofs.Math.IntN.{ℤ, pos}
 use Rattle.std.proofs.lemmas.List.{length-map, length-take, map-append}
-use Rattle.int_vectors.specs.Vectors.{Each}
+use Rattle.int_vectors.specs.Vectors.{Each, add, at_place}
 use Rattle.cayley.specs.Problems.{Point, Problem, EachSupport, with_rank, first_points, ranked_supports}
 use Rattle.cayley.specs.Files.{FilePoint, File, resting}
 use Rattle.cayley.specs.Stored.{held}
-use Rattle.cayley.specs.Paths.{corner, corners, later_corners, direction_corners, path_supports, path}
+use Rattle.cayley.specs.Paths.{corner, corners, least_coordinates, reach, later_corners, direction_corners, path_supports, path}
 use Rattle.cayley.specs.Valid.{IsValidProblem, support_at, file_count_at}
 use Rattle.cayley.proofs.Lists.Each.{map_map, map_drop, same_read}
 use Rattle.cayley.proofs.Lists.Supports.{each_support_at, each_support_from}
 use Rattle.start_system.specs.Corners.{HasPathCorners}
 use Rattle.start_system.specs.Started.{AreStarts, file_with, IsStarted}
 use Rattle.start_system.proofs.Started.Reranking.{same_ranked, bare_ranked}
-use Rattle.start_system.proofs.Judging.Supports.{corners_long}
+use Rattle.start_system.proofs.Judging.Supports.{corners_long, support_of, file_first}
+use Rattle.start_system.proofs.Making.ValidPaths.{dropped}
 
 abbrev bare : List Point → List Point
 bare s = map (with_rank 0) s
@@ -69,9 +70,66 @@ started_by p v h =
 -- ---- and back
 bare_later : (m : List ℤ) (d : ℤ) (k : ℕ) (starts : List ℤ) → bare (later_corners m d k starts) ≡ later_corners m d k starts
 bare_later m d k [] = refl
-bare_later m d k (z ∷ starts) = ap (λ (xs : List Point). _ ∷ xs) (bare_later m d (suc k) starts)
+bare_later m d k (z ∷ starts) = ap (λ (xs : List Point). corner (add m (at_place k d)) z ∷ xs) (bare_later m d (suc k) starts)
 
 bare_directions : (m : List ℤ) (d : ℤ) (own k : ℕ) (starts : List ℤ) → bare (direction_corners m d own k starts) ≡ direction_corners m d own k starts
-bare_directions m d zero k starts = ap (λ (xs : List Point). _ ∷ xs) (bare_later m d (suc k) starts)
+bare_directions m d zero k starts = ap (λ (xs : List Point). corner (add m (at_place k d)) (pos 0) ∷ xs) (bare_later m d (suc k) starts)
 bare_directions m d (suc own) k [] = refl
-bare_directions m d (suc own) k (z ∷ starts) = ap (λ (xs : List Point). _ ∷ xs) (bare_directions m d own (suc k) starts)
+bare_directions m d (suc own) k (z ∷ starts) = ap (λ (xs : List Point). corner (add m (at_place k d)) z ∷ xs) (bare_directions m d own (suc k) starts)
+
+bare_corners : (i : ℕ) (points : List FilePoint) (starts : List ℤ) → bare (corners i points starts) ≡ corners i points starts
+bare_corners i points starts = ap (λ (xs : List Point). corner (least_coordinates points) (pos 0) ∷ xs) (bare_directions (least_coordinates points) (reach (least_coordinates points) points) (i - 1) 0 starts)
+
+back_one : (n i f : ℕ) (s : List Point) (z : List ℤ) → f ≤ length s → length z ≡ n - 1 → Each z (λ z. pos 1 ≤ℤ z)
+    → bare s ≡ bare (map resting (map held (take f s)) ++ corners i (map held (take f s)) z) → HasPathCorners n i f s
+back_one n i f s z l e h is = (z, e, h,
+    map_drop (with_rank 0) f s ∙ ap (drop f) is ∙ sym (map_drop (with_rank 0) f (map resting points ++ corners i points z))
+    ∙ ap bare (ap (λ j. drop j (map resting points ++ corners i points z)) (sym count) ∙ dropped points (corners i points z)) ∙ bare_corners i points z)
+  where
+    points : List FilePoint
+    points = map held (take f s)
+
+    count : length points ≡ f
+    count = let a = length-map (take f s) held in let b = length-take f s in omega (arith, a, b, l)
+
+back_all : (n i : ℕ) (files : List ℕ) (supports : List (List Point)) (starts : List (List ℤ)) → length starts ≡ length supports → Each starts (λ s. (length s ≡ n - 1) × Each s (λ z. pos 1 ≤ℤ z))
+    → EachSupport i files supports (λ i f s. f ≤ length s) → map bare supports ≡ map bare (path_supports i (map (map held) (first_points files supports)) starts) → EachSupport i files supports (HasPathCorners n)
+back_all n i [] [] starts l h t e = tt
+back_all n i [] (s ∷ supports) starts l h t e = t
+back_all n i (f ∷ files) [] starts l h t e = t
+back_all n i (f ∷ files) (s ∷ supports) [] l h t e = absurd (omega arith)
+back_all n i (f ∷ files) (s ∷ supports) (z ∷ starts) l h t e = (
+  back_one n i f s z t.0 h.0.0 h.0.1 (ap (λ xs. get_or xs 0 []) e),
+  back_all n (suc i) files supports starts (omega arith) h.1 t.1 (ap (drop 1) e),
+)
+
+-- a property of each support by its number
+at_places : (P : ℕ → ℕ → List Point → Type 0) (p : Problem) → IsValidProblem p → ((j : ℕ) → j < p.dimension → P (suc j) (file_count_at p (suc j)) (support_at p (suc j))) → EachSupport 1 p.files p.supports P
+at_places P p v h =
+    let nf = corners_long p v.shape.corners in
+    let ns = v.shape.problem.supports in
+    each_support_from P 1 p.files p.supports nf (λ k e d l.
+        let a : suc k ≡ 1 + k = omega arith in
+        let o : suc k - 1 ≡ k = omega arith in
+        let ef : file_count_at p (suc k) ≡ get_or p.files k e = ap (λ j. get_or p.files j 0) o ∙ same_read p.files k 0 e (omega (arith, l, nf)) in
+        let es : support_at p (suc k) ≡ get_or p.supports k d = ap (λ j. get_or p.supports j []) o ∙ same_read p.supports k [] d l in
+        subst (λ j. P j (get_or p.files k e) (get_or p.supports k d)) a
+        (subst (λ f. P (suc k) f (get_or p.supports k d)) ef (subst (λ s. P (suc k) (file_count_at p (suc k)) s) es (h k (omega (arith, l, ns))))))
+
+at_place_of : (P : ℕ → ℕ → List Point → Type 0) (p : Problem) → IsValidProblem p → EachSupport 1 p.files p.supports P → (j : ℕ) → j < p.dimension → P (suc j) (file_count_at p (suc j)) (support_at p (suc j))
+at_place_of P p v h j l =
+    let ns = v.shape.problem.supports in
+    let o : 1 + (suc j - 1) ≡ suc j = omega arith in
+    subst (λ i. P i (file_count_at p (suc j)) (support_at p (suc j))) o (each_support_at P 1 p.files p.supports h (suc j - 1) 0 [] (omega (arith, ns, l)))
+
+pub all_started : (p : Problem) → IsValidProblem p → ((j : ℕ) → j < p.dimension → HasPathCorners p.dimension (suc j) (file_count_at p (suc j)) (support_at p (suc j))) → IsStarted p
+all_started p v h = started_by p v (at_places (Cornered p.dimension) p v (λ j l.
+    (file_first p (suc j) (support_of p v (suc j) (omega arith) (omega (arith, l))), at_place_of (λ i f s. Each (take f s) (λ (x : Point). x.speed ≡ pos 0)) p v v.shape.still j l, h j l)))
+
+pub started_all : (p : Problem) → IsValidProblem p → IsStarted p → (j : ℕ) → j < p.dimension → HasPathCorners p.dimension (suc j) (file_count_at p (suc j)) (support_at p (suc j))
+started_all p v h =
+    let supports = map (map held) (first_points p.files p.supports) in
+    let is : map bare p.supports ≡ map bare (path_supports 1 supports h.0) =
+        ap (λ (q : Problem). map bare q.supports) h.2 ∙ bare_ranked p.version (map length supports) (path_supports 1 supports h.0) in
+    let there = at_places (λ i f s. f ≤ length s) p v (λ j l. file_first p (suc j) (support_of p v (suc j) (omega arith) (omega (arith, l)))) in
+    at_place_of (HasPathCorners p.dimension) p v (back_all p.dimension 1 p.files p.supports h.0 (h.1.0 ∙ sym v.shape.problem.supports) h.1.1 there is)

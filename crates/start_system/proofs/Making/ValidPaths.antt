@@ -92,7 +92,7 @@ distinct_carried i f s t e h =
     subst AreDistinct (sym (map_map (λ (x : Point). x.coordinates) (with_rank 0) (take f s)) ∙ ap (map (λ (x : Point). x.coordinates)) (bare_taken f s t e) ∙ map_map (λ (x : Point). x.coordinates) (with_rank 0) (take f t)) h
 
 -- ---- the supports of the path, without ranks
-dropped : (s : List FilePoint) (ys : List Point) → drop (length s) (map resting s ++ ys) ≡ ys
+pub dropped : (s : List FilePoint) (ys : List Point) → drop (length s) (map resting s ++ ys) ≡ ys
 dropped [] ys = refl
 dropped (x ∷ s) ys = dropped s ys
 
