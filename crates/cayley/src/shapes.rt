@@ -2,12 +2,13 @@ ghost use Rattle.std.specs.Prelude.{◌≡◌, ◌≤◌, ◌-◌, ◌↔◌, Is
 ghost use Rattle.std.specs.List.{All};
 ghost use Rattle.std.specs.Option.{option_map};
 ghost use Rattle.cayley.specs.Stored.{file_point, file_of};
+ghost use Rattle.cayley.specs.Problems.{Version};
 ghost use Rattle.cayley.specs.Shapes.{IsFaulty, IsFileFault, IsFirstStart, IsOutside, IsSupportFault, IsPlaceFault, file_support};
 ghost use Rattle.int_vectors.specs.Vectors.{Each};
 ghost use Rattle.cayley.specs.Valid.{HasFileShape, IsStart, IsValidFile};
 
 use crate::faults::ShapeFault;
-use crate::limits::{are_starts, is_within_file};
+use crate::limits::{are_starts, is_within_file, DIMENSIONS, POINTS};
 use crate::points::FilePoint;
 use std::alloc::Global;
 use std::collections::BTreeSet;
@@ -16,7 +17,7 @@ use std::collections::BTreeSet;
 fn has_points(dim: usize, points: &[FilePoint]) -> bool
     ensures { IsTrue result ↔ ((1 ≤ length points.now) × (length points.now ≤ 1000) × All (λ x. length x.coords ≡ dim) points.now) }
 {
-    1 <= points.len() && points.len() <= 1000 && points.iter().all(|x| x.coords.len() == dim)
+    1 <= points.len() && points.len() <= POINTS && points.iter().all(|x| x.coords.len() == dim)
 }
 
 fn have_points(dim: usize, supports: &[Vec<FilePoint>]) -> bool
@@ -41,12 +42,12 @@ fn has_supports(dim: usize, supports: &[Vec<FilePoint>]) -> bool
     ensures { IsTrue result ↔ ((1 ≤ dim) × (dim ≤ 16) × (length supports.now ≡ dim)
         × All (λ s. (1 ≤ length s.items) × (length s.items ≤ 1000) × All (λ x. length x.coords ≡ dim) s.items) supports.now) }
 {
-    1 <= dim && dim <= 16 && supports.len() == dim && have_points(dim, supports)
+    1 <= dim && dim <= DIMENSIONS && supports.len() == dim && have_points(dim, supports)
 }
 
 // Whether dimension, supports and start heights have the shape of a lift file.
 fn has_file_shape(dim: usize, supports: &[Vec<FilePoint>], starts: &Option<Vec<Vec<i64>>>) -> bool
-    ensures { IsTrue result ↔ HasFileShape (file_of dim (map (λ s. s.items) supports.now) (option_map (λ ss. map (λ s. s.items) ss.items) starts.now)) }
+    ensures { (version : Version) → IsTrue result ↔ HasFileShape (file_of version dim (map (λ s. s.items) supports.now) (option_map (λ ss. map (λ s. s.items) ss.items) starts.now)) }
 {
     has_supports(dim, supports) && have_starts(dim, starts)
 }
@@ -126,7 +127,7 @@ pub(crate) fn check_file(
     supports: &[Vec<FilePoint>],
     starts: &Option<Vec<Vec<i64>>>,
 ) -> Result<(), ShapeFault>
-    ensures { let given = file_of dim (map (λ s. s.items) supports.now) (option_map (λ ss. map (λ s. s.items) ss.items) starts.now) in
+    ensures { (version : Version) → let given = file_of version dim (map (λ s. s.items) supports.now) (option_map (λ ss. map (λ s. s.items) ss.items) starts.now) in
         MatchResult result (λ _. IsValidFile given) (IsFileFault given) }
 {
     if !has_file_shape(dim, supports, starts) {
