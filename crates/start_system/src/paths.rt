@@ -1,4 +1,4 @@
-ghost use Rattle.std.specs.Prelude.{◌≡◌, IfOk, length, map};
+ghost use Rattle.std.specs.Prelude.{◌≡◌, IfOk, MatchResult, length, map};
 ghost use Rattle.cayley.specs.Files.{plain_problem};
 ghost use Rattle.cayley.specs.Paths.{path, path_supports, starts_of};
 ghost use Rattle.cayley.specs.Problems.{version2, file_points, IsStill};
@@ -12,7 +12,7 @@ ghost use Rattle.start_system.specs.Started.{IsStarted, IsSearched};
 use crate::corners::path_points;
 use crate::lists::push;
 use crate::starts::default_starts;
-use cayley::{FilePoint, LiftFile, Problem, ShapeFault, Support};
+use cayley::{FilePoint, LiftFile, Problem, ShapeFault, Support, Version};
 use std::alloc::Global;
 use wide_int::OutOfMemory;
 
@@ -59,14 +59,28 @@ fn memory_fault(fault: ShapeFault) -> OutOfMemory
     }
 }
 
-// The problem of the supports of a file's path.
+// The problem of the supports of a file's path, in the file's version.
+fn checked(alloc: Global, file: &LiftFile, supports: Vec<Support>) -> Result<Problem, ShapeFault>
+    requires files { map (λ s. s.file) supports.items ≡ map length file.now.supports }
+    requires points { map (λ s. map point s.points.items) supports.items ≡ path_supports 1 file.now.supports (starts_of file.now) }
+    ensures path { MatchResult result (λ p. p ≡ path file.now) (λ fault. fault ≡ ShapeFault.OutOfMemory) }
+    ensures valid { IsValidFile file.now }
+{
+    let dim = file.dim();
+    match file.form() {
+        Version::First => Problem::new(alloc, dim, supports),
+        Version::Second => Problem::perturbed(alloc, dim, supports),
+    }
+}
+
+// The same, where no fault is left but want of memory.
 fn path_of(alloc: Global, file: &LiftFile, supports: Vec<Support>) -> Result<Problem, OutOfMemory>
     requires files { map (λ s. s.file) supports.items ≡ map length file.now.supports }
     requires points { map (λ s. map point s.points.items) supports.items ≡ path_supports 1 file.now.supports (starts_of file.now) }
     ensures path { IfOk result (λ p. p ≡ path file.now) }
     ensures valid { IsValidFile file.now }
 {
-    match Problem::new(alloc, file.dim(), supports) {
+    match checked(alloc, file, supports) {
         Ok(problem) => Ok(problem),
         Err(fault) => Err(memory_fault(fault)),
     }

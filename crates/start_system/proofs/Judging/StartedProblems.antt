@@ -3,7 +3,7 @@ use Rattle.std.proofs.Common.{◌≡◌, ◌⊎◌, ℕ, zero, suc, ◌+◌, ◌
 use Rattle.std.proofs.Math.IntN.{ℤ, pos}
 use Rattle.std.proofs.lemmas.List.{length-map, length-take, map-append}
 use Rattle.int_vectors.specs.Vectors.{Each, add, at_place}
-use Rattle.cayley.specs.Problems.{Point, Problem, EachSupport, with_rank, first_points, ranked_supports}
+use Rattle.cayley.specs.Problems.{Point, Problem, EachSupport, version1, IsStill, HasNoCorners, with_rank, first_points, ranked_supports}
 use Rattle.cayley.specs.Files.{FilePoint, File, resting}
 use Rattle.cayley.specs.Stored.{held}
 use Rattle.cayley.specs.Paths.{corner, corners, least_coordinates, reach, later_corners, direction_corners, path_supports, path}
@@ -15,6 +15,7 @@ use Rattle.start_system.specs.Started.{AreStarts, file_with, IsStarted}
 use Rattle.start_system.proofs.Started.Reranking.{same_ranked, bare_ranked}
 use Rattle.start_system.proofs.Judging.Supports.{corners_long, support_of, file_first}
 use Rattle.start_system.proofs.Making.ValidPaths.{dropped}
+use Rattle.start_system.proofs.Judging.Corners.{first_of}
 
 abbrev bare : List Point → List Point
 bare s = map (with_rank 0) s
@@ -122,9 +123,21 @@ at_place_of P p v h j l =
     let o : 1 + (suc j - 1) ≡ suc j = omega arith in
     subst (λ i. P i (file_count_at p (suc j)) (support_at p (suc j))) o (each_support_at P 1 p.files p.supports h (suc j - 1) 0 [] (omega (arith, ns, l)))
 
+-- with corners the file points rest
+rests : (p : Problem) → IsValidProblem p → ((j : ℕ) → j < p.dimension → HasPathCorners p.dimension (suc j) (file_count_at p (suc j)) (support_at p (suc j))) → IsStill p
+rests p v h = by v.shape.still
+  where
+    by : IsStill p ⊎ ((p.version ≡ version1) × HasNoCorners p) → IsStill p
+    by (inl s) = s
+    by (inr n) =
+        let some = v.shape.dimension.0 in
+        let none = at_place_of (λ i f s. length s ≡ f) p v n.1 0 (omega (arith, some)) in
+        let there = (first_of p.dimension 1 (file_count_at p 1) (support_at p 1) (omega arith) some (h 0 (omega (arith, some)))).0 in
+        absurd (omega (arith, none, there))
+
 pub all_started : (p : Problem) → IsValidProblem p → ((j : ℕ) → j < p.dimension → HasPathCorners p.dimension (suc j) (file_count_at p (suc j)) (support_at p (suc j))) → IsStarted p
 all_started p v h = started_by p v (at_places (Cornered p.dimension) p v (λ j l.
-    (file_first p (suc j) (support_of p v (suc j) (omega arith) (omega (arith, l))), at_place_of (λ i f s. Each (take f s) (λ (x : Point). x.speed ≡ pos 0)) p v v.shape.still j l, h j l)))
+    (file_first p (suc j) (support_of p v (suc j) (omega arith) (omega (arith, l))), at_place_of (λ i f s. Each (take f s) (λ (x : Point). x.speed ≡ pos 0)) p v (rests p v h) j l, h j l)))
 
 pub started_all : (p : Problem) → IsValidProblem p → IsStarted p → (j : ℕ) → j < p.dimension → HasPathCorners p.dimension (suc j) (file_count_at p (suc j)) (support_at p (suc j))
 started_all p v h =

@@ -3,7 +3,7 @@ use Rattle.std.proofs.Common.{◌≡◌, ◌⊎◌, ℕ, zero, suc, ◌+◌, ◌
 use Rattle.std.proofs.Math.IntN.{ℤ, pos}
 use Rattle.std.proofs.lemmas.List.{length-take, length-map}
 use Rattle.int_vectors.specs.Vectors.{Each}
-use Rattle.cayley.specs.Problems.{Point, Problem, EachSupport, HasCorners, origin, point_at}
+use Rattle.cayley.specs.Problems.{Point, Problem, EachSupport, HasCorners, with_rank, origin, point_at}
 use Rattle.cayley.specs.Files.{FilePoint}
 use Rattle.cayley.specs.Stored.{held}
 use Rattle.cayley.specs.Valid.{IsCoordinate, IsValidProblem, IsWithinProblem, support_at, file_count_at}
@@ -72,12 +72,19 @@ support_of p v i l m =
     long_enough (inr e) = omega (arith, e)
 
 -- a file point of the support, as a file has it
-pub held_at : (f : ℕ) (s : List Point) (c : ℕ) (x : Point) → f ≤ length s → c < f → x ≡ point_at s (c + 1) → held x ≡ get_or (map held (take f s)) c (held x)
-held_at f s c x l m e =
+file_point_at : (f : ℕ) (s : List Point) (c : ℕ) (x : Point) → f ≤ length s → c < f → x ≡ point_at s (c + 1) → held x ≡ get_or (map held (take f s)) c (held x)
+file_point_at f s c x l m e =
     let t = length-take f s in
     let o : c + 1 - 1 ≡ c = omega arith in
     map_at held (take f s) c x (held x)
     (e ∙ ap (λ j. get_or s j origin) o ∙ same_read s c origin x (omega (arith, l, m)) ∙ sym (read_take s f c x m)) (omega (arith, t, l, m))
+
+-- the same of a point whose rank isn't known
+pub held_at : (f : ℕ) (s : List Point) (c : ℕ) (x : Point) → f ≤ length s → c < f → x ≡ with_rank 0 (point_at s (c + 1)) → held x ≡ get_or (map held (take f s)) c (held x)
+held_at f s c x l m e =
+    let y = point_at s (c + 1) in
+    let h : held x ≡ held y = ap held e in
+    h ∙ file_point_at f s c y l m refl ∙ ap (get_or (map held (take f s)) c) (sym h)
 
 pub count_points : (p : Problem) (i : ℕ) → SupportAt p i → length (points_at p i) ≡ file_count_at p i
 count_points p i h =
@@ -86,7 +93,7 @@ count_points p i h =
     let b = length-take (file_count_at p i) (support_at p i) in
     omega (arith, a, b, f)
 
-pub checked_point : (p : Problem) (i : ℕ) → SupportAt p i → (c : ℕ) (x : Point) → c < file_count_at p i → x ≡ point_at (support_at p i) (c + 1) → (length x.coordinates ≡ p.dimension) × Each x.coordinates IsCoordinate
+pub checked_point : (p : Problem) (i : ℕ) → SupportAt p i → (c : ℕ) (x : Point) → c < file_count_at p i → x ≡ with_rank 0 (point_at (support_at p i) (c + 1)) → (length x.coordinates ≡ p.dimension) × Each x.coordinates IsCoordinate
 checked_point p i h c x l e =
     let n = count_points p i h in
     subst (λ (y : FilePoint). (length y.coordinates ≡ p.dimension) × Each y.coordinates IsCoordinate)

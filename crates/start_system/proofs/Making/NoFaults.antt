@@ -1,5 +1,5 @@
 -- of a valid problem no fault is left but want of memory
-use Rattle.std.proofs.Common.{◌≡◌, ◌⊎◌, ℕ, suc, ◌+◌, ◌-◌, ◌<◌, ◌≤◌, List, [], length, map, take, drop, get_or, arith, refl, sym, ap, subst, ◌∙◌, inl, inr}
+use Rattle.std.proofs.Common.{◌≡◌, ◌⊎◌, ℕ, suc, ◌+◌, ◌-◌, ◌<◌, ◌≤◌, List, [], length, map, take, drop, get_or, Result, Ok, Err, MatchResult, arith, refl, sym, ap, subst, ◌∙◌, inl, inr}
 use Rattle.std.proofs.Math.IntN.{ℤ}
 use Rattle.std.proofs.lemmas.List.{length-map, length-take, length-drop}
 use native.Mathlib.Decide.{dec_le}
@@ -7,10 +7,14 @@ use Rattle.int_vectors.specs.Vectors.{Each}
 use Rattle.cayley.specs.declared.faults.ShapeFault.{ShapeFault}
 use Rattle.cayley.specs.declared.faults.ShapeFault.TheVariants.{BadShape, Repeated, Range, StartRange, OutOfMemory}
 use Rattle.cayley.specs.Problems.{Point, Problem, IsStill, point_at, origin}
+use Rattle.cayley.specs.Files.{File}
+use Rattle.cayley.specs.Paths.{path}
 use Rattle.cayley.specs.Shapes.{IsFaultyOf, IsOutsideOf, IsRepeat, IsProblemFault}
-use Rattle.cayley.specs.Valid.{AreDistinct, IsWithinProblem, IsWithinCorners, IsValidProblem, support_at, file_count_at}
+use Rattle.cayley.specs.Valid.{AreDistinct, IsWithinProblem, IsWithinCorners, IsValidFile, IsValidProblem, support_at, file_count_at}
 use Rattle.cayley.proofs.Lists.Each.{all_each, read_take, read_drop, read_past}
 use Rattle.cayley.proofs.Lists.Supports.{each_support_at}
+use Rattle.start_system.proofs.Started.SearchLaws.{path_law}
+use Rattle.start_system.proofs.Making.ValidPaths.{path_valid}
 use Rattle.start_system.proofs.Judging.Supports.{SupportAt, support_of, file_first, corners_long}
 
 not_outside : (f : ℕ) (s : List Point) (q : ℕ) → f ≤ length s → Each (take f s) IsWithinProblem → Each (drop f s) IsWithinCorners → ¬ (IsOutsideOf f s q)
@@ -61,9 +65,15 @@ not_faulty p v i q l h = elim (dec_le i p.dimension) [
         (read_past p.files (i - 1) 0 (let a = corners_long p v.shape.corners in let b = v.shape.problem.supports in omega (arith, a, b, l, m)))
         (read_past p.supports (i - 1) [] (let b = v.shape.problem.supports in omega (arith, b, l, m)))
 
-pub only_memory : (p : Problem) → IsValidProblem p → (fault : ShapeFault) → IsProblemFault p fault → fault ≡ OutOfMemory
-only_memory p v BadShape h = absurd (h v.shape)
-only_memory p v (Repeated i q) h = absurd (not_faulty p v i q h.1.0.support h.1.0.has)
-only_memory p v (Range i q) h = absurd (not_faulty p v i q h.1.0.support h.1.0.has)
-only_memory p v (StartRange i) h = absurd h
-only_memory p v OutOfMemory h = refl
+pub only_memory : (p : Problem) → IsValidProblem p → IsStill p → (fault : ShapeFault) → IsProblemFault p fault → fault ≡ OutOfMemory
+only_memory p v w BadShape h = absurd (h (v.shape, w))
+only_memory p v w (Repeated i q) h = absurd (not_faulty p v i q h.2.0.support h.2.0.has)
+only_memory p v w (Range i q) h = absurd (not_faulty p v i q h.2.0.support h.2.0.has)
+only_memory p v w (StartRange i) h = absurd h
+only_memory p v w OutOfMemory h = refl
+
+-- the constructor's answer at the parts of the path of a file
+pub only_path : (file : File) (given : Problem) (r : Result Problem ShapeFault) → IsValidFile file → given ≡ path file
+    → MatchResult r (λ p. IsValidProblem given × (p ≡ given)) (IsProblemFault given) → MatchResult r (λ p. p ≡ path file) (λ fault. fault ≡ OutOfMemory)
+only_path file given (Ok p) v e h = h.1 ∙ e
+only_path file given (Err fault) v e h = only_memory given (subst IsValidProblem (sym e) (path_valid file v)) (subst IsStill (sym e) (path_law file v).1) fault h

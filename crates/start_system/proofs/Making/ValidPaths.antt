@@ -4,13 +4,13 @@ use Rattle.std.proofs.Math.IntN.{ℤ, pos, ◌+ℤ◌}
 use Rattle.std.proofs.lemmas.Int.{ints}
 use Rattle.std.proofs.lemmas.List.{length-map, length-drop}
 use Rattle.int_vectors.specs.Vectors.{Each}
-use Rattle.cayley.specs.Problems.{Point, Problem, EachSupport, HasRanks, IsStill, point_at, with_rank, ranked_supports}
+use Rattle.cayley.specs.Problems.{Version, Point, Problem, EachSupport, HasRanks, IsStill, point_at, with_rank, ranked_supports}
 use Rattle.cayley.specs.declared.points.Support.{Support}
 use Rattle.cayley.specs.Stored.{point, problem_of}
 use Rattle.cayley.specs.Files.{FilePoint, File, resting}
 use Rattle.cayley.specs.Paths.{corners, path_supports, path, starts_of}
 use Rattle.cayley.specs.Valid.{IsStart, IsMoving, AreDistinct, IsWithinFile, IsWithinProblem, IsWithinCorners, IsValidFile, IsValidProblem}
-use Rattle.cayley.proofs.Lists.Each.{map_map, map_same, map_take, map_drop, each_map, each_unmap, read_drop}
+use Rattle.cayley.proofs.Lists.Each.{map_map, map_take, map_drop, each_map, each_unmap, read_drop}
 use Rattle.start_system.specs.Corners.{ArePoints, ArePathParts}
 use Rattle.start_system.proofs.Path.Positions.{from_zero, point_suc}
 use Rattle.start_system.proofs.Path.Shape.{Shapes, corner_speed}
@@ -106,7 +106,7 @@ module _ (n : ℕ) (A : List FilePoint → Type 0) (Q : ℕ → ℕ → List Poi
 
 rest_within : (s : List FilePoint) → Each s IsWithinFile → Each (map resting s) IsWithinProblem
 rest_within [] h = tt
-rest_within (x ∷ s) h = (h.0, rest_within s h.1)
+rest_within (x ∷ s) h = ((h.0.0, h.0.1, (let a = h.0.1 in omega (arith, ints, a))), rest_within s h.1)
 
 within_one : (n : ℕ) → n ≤ 16 → (i : ℕ) (s : List FilePoint) (z : List ℤ) → 1 ≤ i → i ≤ n → Each s IsWithinFile × ArePoints n s → suc (length z) ≡ n → Each z IsStart
     → WithinAt i (length s) (map resting s ++ corners i s z)
@@ -143,14 +143,13 @@ path_valid file v =
     let heights : Each (starts_of file) (λ z. suc (length z) ≡ n) = subst (λ (m : ℕ). Each (starts_of file) (λ z. suc (length z) ≡ m)) ns parts.heights in
     let small = starts_small file v in
     record {
-      version = v.version;
       ranks = same_ranked file.version files plain (path file).supports same;
       shape = record {
         dimension = v.shape.dimension;
         problem = form_well (path file) form;
         counts = each_map length _ file.supports v.shape.counts;
         corners = inr (corners_all n 0 1 files (path file).supports form.long);
-        still = form_still (path file) form;
+        still = inl (form_still (path file) form);
         moving = moving_all n 0 1 files (path file).supports form.long form.shapes;
       };
       limits = carry WithinAt within_carried 1 files plain (path file).supports same
@@ -162,15 +161,7 @@ path_valid file v =
     }
 
 -- ---- as it is stored
-stored_bare : (xs : List Support) → map bare (map (λ (s : Support). map point s.points.items) xs) ≡ map (λ (s : Support). map point s.points.items) xs
-stored_bare xs = map_map bare (λ (s : Support). map point s.points.items) xs ∙ map_same (λ (s : Support). bare (map point s.points.items)) (λ (s : Support). map point s.points.items) (λ s. map_map (with_rank 0) point s.points.items) xs
-
--- the problem of the supports of the path of a file
-pub stored_path : (file : File) → IsValidFile file → (n : ℕ) (xs : List Support) → n ≡ file.dimension → map (λ (s : Support). s.file) xs ≡ map length file.supports
-    → map (λ (s : Support). map point s.points.items) xs ≡ path_supports 1 file.supports (starts_of file) → problem_of n xs ≡ path file
-stored_path file v n xs e f g =
-    let files = map length file.supports in
-    let plain = path_supports 1 file.supports (starts_of file) in
-    let ranked : map (λ (s : Support). map point s.points.items) xs ≡ ranked_supports file.version files plain
-        = sym (stored_bare xs) ∙ ap (map bare) g ∙ ap (λ v. ranked_supports v files plain) (sym v.version) in
-    λ i. record { version = sym v.version i; dimension = e i; files = f i; supports = ranked i }
+pub stored_path : (file : File) (version : Version) (n : ℕ) (xs : List Support) → version ≡ file.version → n ≡ file.dimension → map (λ (s : Support). s.file) xs ≡ map length file.supports
+    → map (λ (s : Support). map point s.points.items) xs ≡ path_supports 1 file.supports (starts_of file) → problem_of version n xs ≡ path file
+stored_path file version n xs v e f g =
+    λ i. record { version = v i; dimension = e i; files = f i; supports = ranked_supports (v i) (f i) (g i) }

@@ -34,7 +34,6 @@ apart (suc (suc j)) k l m e = omega arith
 
 valid : IsValidFile three_points
 valid = record {
-  version = refl;
   shape = record {
     dimension = (omega arith, omega arith);
     supports = refl;

@@ -2,7 +2,7 @@ use Rattle.std.proofs.Common.{rules, ◌≡◌, ◌∙◌, ◌+◌, ◌-◌, ◌
 use Rattle.std.proofs.Math.Facts.{to_z-of_z}
 use Rattle.std.specs.Int.{w128}
 use Rattle.int_vectors.specs.Vectors.{Each}
-use Rattle.cayley.specs.Problems.{Point, point_at}
+use Rattle.cayley.specs.Problems.{Point, with_rank, point_at}
 use Rattle.cayley.specs.Stored.{point}
 use Rattle.cayley.specs.Paths.{least_coordinates}
 use Rattle.cayley.specs.Valid.{IsCoordinate, support_at, file_count_at}
@@ -58,7 +58,7 @@ is_first-requires-clause-length c =
     let u = c.count.ensures in
     let q = c.if-count-first.false in
     let o : c.file_count-first.result + 1 ≡ suc f = omega (arith, e) in
-    let corner : point c.point-corner.result.now ≡ point_at s (suc f) = c.point-corner.ensures.value ∙ ap (point_at s) o in
+    let corner : point c.point-corner.result.now ≡ with_rank 0 (point_at s (suc f)) = c.point-corner.ensures.value ∙ ap (λ j. with_rank 0 (point_at s j)) o in
     let long = with_corners_there p i h (omega (arith, e, u, q)) in
     ap (λ (x : Point). length x.coordinates) corner ∙ h.long (suc f) (omega arith) (omega (arith, long))
 
@@ -77,7 +77,7 @@ returns-then-not-is_first c =
     let u = c.count.ensures in
     let q = c.if-count-first.false in
     let o : c.file_count-first.result + 1 ≡ suc f = omega (arith, e) in
-    let corner : point c.point-corner.result.now ≡ point_at s (suc f) = c.point-corner.ensures.value ∙ ap (point_at s) o in
+    let corner : point c.point-corner.result.now ≡ with_rank 0 (point_at s (suc f)) = c.point-corner.ensures.value ∙ ap (λ j. with_rank 0 (point_at s j)) o in
     let long = with_corners_there p i h (omega (arith, e, u, q)) in
     let t : ¬ (IsTrue c.is_first.result) = search rules in
     (λ t. absurd (no_true t), λ w. absurd (t (c.is_first.ensures.1 (subst (IsFirstOf points) (sym corner) (first_of p.dimension i f s lo hi w).1))))
@@ -97,7 +97,7 @@ reach-d-requires-clause-length c =
     let u = c.count.ensures in
     let q = c.if-count-first.false in
     let o : c.file_count-first.result + 1 ≡ suc f = omega (arith, e) in
-    let corner : point c.point-corner.result.now ≡ point_at s (suc f) = c.point-corner.ensures.value ∙ ap (point_at s) o in
+    let corner : point c.point-corner.result.now ≡ with_rank 0 (point_at s (suc f)) = c.point-corner.ensures.value ∙ ap (λ j. with_rank 0 (point_at s j)) o in
     let long = with_corners_there p i h (omega (arith, e, u, q)) in
     ap (λ (x : Point). length x.coordinates) corner ∙ h.long (suc f) (omega arith) (omega (arith, long))
 
@@ -168,7 +168,7 @@ point-other-requires-clause-last c =
     let u = c.count.ensures in
     let q = c.if-count-first.false in
     let o : c.file_count-first.result + 1 ≡ suc f = omega (arith, e) in
-    let corner : point c.point-corner.result.now ≡ point_at s (suc f) = c.point-corner.ensures.value ∙ ap (point_at s) o in
+    let corner : point c.point-corner.result.now ≡ with_rank 0 (point_at s (suc f)) = c.point-corner.ensures.value ∙ ap (λ j. with_rank 0 (point_at s j)) o in
     let long = with_corners_there p i h (omega (arith, e, u, q)) in
     let dn = c.dim-k-end.ensures.value in
     let kn = c.loop-k-test.true in
@@ -189,7 +189,7 @@ is_direction-requires-clause-lengths c =
     let u = c.count.ensures in
     let q = c.if-count-first.false in
     let o : c.file_count-first.result + 1 ≡ suc f = omega (arith, e) in
-    let corner : point c.point-corner.result.now ≡ point_at s (suc f) = c.point-corner.ensures.value ∙ ap (point_at s) o in
+    let corner : point c.point-corner.result.now ≡ with_rank 0 (point_at s (suc f)) = c.point-corner.ensures.value ∙ ap (λ j. with_rank 0 (point_at s j)) o in
     let long = with_corners_there p i h (omega (arith, e, u, q)) in
     let dn = c.dim-k-end.ensures.value in
     let kn = c.loop-k-test.true in
@@ -211,7 +211,7 @@ is_direction-requires-clause-place c =
     let u = c.count.ensures in
     let q = c.if-count-first.false in
     let o : c.file_count-first.result + 1 ≡ suc f = omega (arith, e) in
-    let corner : point c.point-corner.result.now ≡ point_at s (suc f) = c.point-corner.ensures.value ∙ ap (point_at s) o in
+    let corner : point c.point-corner.result.now ≡ with_rank 0 (point_at s (suc f)) = c.point-corner.ensures.value ∙ ap (λ j. with_rank 0 (point_at s j)) o in
     let long = with_corners_there p i h (omega (arith, e, u, q)) in
     let dn = c.dim-k-end.ensures.value in
     let kn = c.loop-k-test.true in
@@ -254,7 +254,7 @@ returns-then-not-is_direction c =
     let is = simp to_z-of_z at c.is_direction.ensures in
     let n : ¬ (IsTrue c.is_direction.result) = search rules in
     let r : c.file_count-first.result + 1 + c.loop-k.k + 1 ≡ suc (f + suc c.loop-k.k) = omega (arith, e) in
-    let other : point c.point-other.result.now ≡ direction_corner_at p i c.loop-k.k = c.point-other.ensures.value ∙ ap (point_at s) r in
+    let other : point c.point-other.result.now ≡ with_rank 0 (direction_corner_at p i c.loop-k.k) = c.point-other.ensures.value ∙ ap (λ j. with_rank 0 (point_at s j)) r in
     (λ t. absurd (no_true t), λ z. absurd (n (is.1 (subst (IsDirectionOf c.point-corner.result.now.coords c.reach-d.result (i - 1) c.loop-k.k) (sym other)
         (to_direction p.dimension i f s c.point-corner.result.now.coords c.reach-d.result lo hi w.0 c.reach-d.ensures.value z c.loop-k.k (omega (arith, dn, kn)))))))
 
@@ -276,7 +276,7 @@ loop-k-preserved c =
     let is = simp to_z-of_z at c.is_direction.ensures in
     let y : IsTrue c.is_direction.result = search rules in
     let r : c.file_count-first.result + 1 + c.loop-k.k + 1 ≡ suc (f + suc c.loop-k.k) = omega (arith, e) in
-    let other : point c.point-other.result.now ≡ direction_corner_at p i c.loop-k.k = c.point-other.ensures.value ∙ ap (point_at s) r in
+    let other : point c.point-other.result.now ≡ with_rank 0 (direction_corner_at p i c.loop-k.k) = c.point-other.ensures.value ∙ ap (λ j. with_rank 0 (point_at s j)) r in
     λ j l. simp to_z-of_z (next_direction (λ j. IsDirectionOf c.point-corner.result.now.coords c.reach-d.result (i - 1) j (direction_corner_at p i j)) c.loop-k.k
         (λ j l. let inv = simp to_z-of_z at (c.loop-k.invariant j l) in inv)
         (subst (IsDirectionOf c.point-corner.result.now.coords c.reach-d.result (i - 1) c.loop-k.k) other (is.0 y)) j l)
@@ -296,7 +296,7 @@ returns c =
     let u = c.count.ensures in
     let q = c.if-count-first.false in
     let o : c.file_count-first.result + 1 ≡ suc f = omega (arith, e) in
-    let corner : point c.point-corner.result.now ≡ point_at s (suc f) = c.point-corner.ensures.value ∙ ap (point_at s) o in
+    let corner : point c.point-corner.result.now ≡ with_rank 0 (point_at s (suc f)) = c.point-corner.ensures.value ∙ ap (λ j. with_rank 0 (point_at s j)) o in
     let long = with_corners_there p i h (omega (arith, e, u, q)) in
     let t : IsTrue c.is_first.result = search rules in
     let w = c.is_first.ensures.0 t in
