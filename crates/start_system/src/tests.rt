@@ -8,8 +8,8 @@ use std::test::Fail;
 fn default_heights_in_two_dimensions(rt: HostRuntime) -> Result<(), Fail> {
     let starts = default_starts(rt.alloc(), 2)?;
     assert!(rt; starts.len() == 2);
-    assert!(rt; starts[0].as_slice() == &[331]);
-    assert!(rt; starts[1].as_slice() == &[365]);
+    assert!(rt; starts[0].as_slice() == [331].as_slice());
+    assert!(rt; starts[1].as_slice() == [365].as_slice());
     Ok(())
 }
 
@@ -100,7 +100,7 @@ fn path_of_two_squares(rt: HostRuntime) -> Result<(), Fail> {
     assert!(rt; is_point(&path, (2, 7), [0, 2], 0, 1));
     assert!(rt; is_started(&path));
     let cell = start_cell(alloc, &path);
-    assert!(rt; cell.pairs() == &[(5, 6), (5, 7)]);
+    assert!(rt; cell.pairs() == [(5, 6), (5, 7)].as_slice());
     Ok(())
 }
 
