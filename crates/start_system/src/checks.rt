@@ -69,11 +69,7 @@ fn reach(problem: &Problem, i: u32, m: &IntVec) -> i128
 fn is_start(base: i64, own: usize, k: usize) -> bool
     ensures { IsTrue result ↔ ((k ≡ own → base ≡ pos 0) × (k ≢ own → pos 1 ≤ℤ base)) }
 {
-    if k == own {
-        base == 0
-    } else {
-        1 <= base
-    }
+    if k == own { base == 0 } else { 1 <= base }
 }
 
 // Whether the corner is that of direction k; it and the own direction count from 0.

@@ -34,11 +34,7 @@ fn moved_entry(m: &IntVec, k: usize, d: i128, j: usize) -> i128
     ensures value { result ≡ at (add m.now (at_place k d)) j }
     ensures small { IsCornerCoordinate result }
 {
-    if j == k {
-        m.get(j) + d
-    } else {
-        m.get(j)
-    }
+    if j == k { m.get(j) + d } else { m.get(j) }
 }
 
 // The vector m + d e_k; k counts from 0.

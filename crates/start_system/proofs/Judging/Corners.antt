@@ -1,5 +1,5 @@
 -- the corners of a support are those of a path exactly where each one alone is
-use Rattle.std.proofs.Common.{◌≡◌, ◌≢◌, true, false, ℕ, zero, suc, ◌+◌, ◌-◌, ◌<◌, ◌≤◌, List, [], ◌∷◌, length, map, take, drop, get_or, arith, refl, sym, ap, subst, ◌∙◌, ◌≤ℤ◌, ◌<ℤ◌}
+use Rattle.std.proofs.Common.{◌≡◌, ◌≢◌, true, false, ℕ, zero, suc, ◌+◌, ◌-◌, ◌<◌, ◌≤◌, List, [], ◌∷◌, length, map, take, drop, arith, refl, sym, ap, subst, ◌∙◌, ◌≤ℤ◌}
 use native.Mathlib.Decide.{ℕ_discrete}
 use Rattle.std.proofs.Math.IntN.{ℤ, pos}
 use Rattle.std.proofs.lemmas.Int.{ints}
@@ -9,7 +9,7 @@ use Rattle.cayley.specs.Problems.{Point, point_at, origin, with_rank}
 use Rattle.cayley.specs.Files.{FilePoint}
 use Rattle.cayley.specs.Stored.{held}
 use Rattle.cayley.specs.Paths.{corner, corners, least_coordinates, reach, later_corners, direction_corners}
-use Rattle.cayley.proofs.Lists.Each.{read_drop, map_at}
+use Rattle.cayley.proofs.Lists.Each.{read_drop}
 use Rattle.start_system.specs.Corners.{IsFirstOf, IsDirectionOf, HasPathCorners}
 use Rattle.start_system.proofs.Path.Positions.{from_zero, point_suc}
 use Rattle.start_system.proofs.Path.Supports.{direction_from_zero, length-directions}
@@ -57,7 +57,7 @@ directed_from m d (suc own) j (x ∷ xs) l s h =
     let first = h 0 (omega arith) in
     let o : j + 0 ≡ j = omega arith in
     let rest = directed_from m d own (suc j) xs (omega arith) s.1 (λ k l. let q : j + suc k ≡ suc j + k = omega arith in let r = h (suc k) (omega arith) in
-        (r.0 ∙ ap (λ i. add m (at_place i d)) q, (λ e. r.1 (ap suc e)), (λ n. r.2 (λ e. n (omega (arith, e)))))) in (
+    (r.0 ∙ ap (λ i. add m (at_place i d)) q, (λ e. r.1 (ap suc e)), (λ n. r.2 (λ e. n (omega (arith, e)))))) in (
       x.base ∷ rest.0,
       ap suc rest.1,
       (first.2 (λ e. omega (arith, e)), rest.2),

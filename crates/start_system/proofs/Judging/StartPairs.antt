@@ -2,7 +2,6 @@
 use Rattle.std.proofs.Common.{◌≡◌, ℕ, zero, suc, ◌+◌, ◌<◌, ◌≤◌, List, [], ◌∷◌, length, take, get_or, slice_set, arith, refl, sym, ap, ◌∙◌}
 use Rattle.std.proofs.Math.Seq.{take-suc-set}
 use Rattle.std.proofs.lemmas.List.{take_all}
-use Rattle.int_vectors.specs.Vectors.{Each}
 use Rattle.cayley.specs.Cells.{Cell, IsCell}
 use Rattle.cayley.specs.Paths.{start_pairs}
 use Rattle.cayley.specs.Valid.{IsValidCell}
@@ -30,7 +29,7 @@ next_pair files pairs k f l m e h =
     let n = length-pairs 1 files in
     ap (λ j. take j (slice_set pairs k (f + 1, f + 1 + (k + 1)))) o ∙ take-suc-set pairs k (f + 1, f + 1 + (k + 1)) m
     ∙ next_taken (start_pairs 1 files) (take k pairs) k (f + 1, f + 1 + (k + 1)) (0, 0) h (omega (arith, n, l))
-        (ap (λ (j : ℕ). (f + 1, f + 1 + j)) (sym t) ∙ pair_at 1 k f files l e)
+    (ap (λ (j : ℕ). (f + 1, f + 1 + j)) (sym t) ∙ pair_at 1 k f files l e)
 
 pub all_pairs : (files : List ℕ) (pairs : Cell) (count k : ℕ) → length files ≡ count → count ≤ k → k ≤ count → take k pairs ≡ take k (start_pairs 1 files) → take count pairs ≡ start_pairs 1 files
 all_pairs files pairs count k e l m h =

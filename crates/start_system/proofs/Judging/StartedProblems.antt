@@ -1,17 +1,17 @@
 -- a valid problem is started exactly where each support has the corners of a path
-use Rattle.std.proofs.Common.{◌≡◌, ◌⊎◌, ℕ, zero, suc, ◌+◌, ◌-◌, ◌<◌, ◌≤◌, List, [], ◌∷◌, ◌++◌, Some, length, map, take, drop, get_or, take-append-drop, arith, refl, sym, ap, ap₂, subst, ◌∙◌, inl, inr, ◌≤ℤ◌}
+use Rattle.std.proofs.Common.{◌≡◌, ◌⊎◌, ℕ, zero, suc, ◌+◌, ◌-◌, ◌<◌, ◌≤◌, List, [], ◌∷◌, ◌++◌, length, map, take, drop, get_or, take-append-drop, arith, refl, sym, ap, ap₂, subst, ◌∙◌, inl, inr, ◌≤ℤ◌}
 use Rattle.std.proofs.Math.IntN.{ℤ, pos}
 use Rattle.std.proofs.lemmas.List.{length-map, length-take, map-append}
 use Rattle.int_vectors.specs.Vectors.{Each, add, at_place}
 use Rattle.cayley.specs.Problems.{Point, Problem, EachSupport, version1, IsStill, HasNoCorners, with_rank, first_points, ranked_supports}
-use Rattle.cayley.specs.Files.{FilePoint, File, resting}
+use Rattle.cayley.specs.Files.{FilePoint, resting}
 use Rattle.cayley.specs.Stored.{held}
-use Rattle.cayley.specs.Paths.{corner, corners, least_coordinates, reach, later_corners, direction_corners, path_supports, path}
+use Rattle.cayley.specs.Paths.{corner, corners, least_coordinates, reach, later_corners, direction_corners, path_supports}
 use Rattle.cayley.specs.Valid.{IsValidProblem, support_at, file_count_at}
 use Rattle.cayley.proofs.Lists.Each.{map_map, map_drop, same_read}
 use Rattle.cayley.proofs.Lists.Supports.{each_support_at, each_support_from}
 use Rattle.start_system.specs.Corners.{HasPathCorners}
-use Rattle.start_system.specs.Started.{AreStarts, file_with, IsStarted}
+use Rattle.start_system.specs.Started.{IsStarted}
 use Rattle.start_system.proofs.Started.Reranking.{same_ranked, bare_ranked}
 use Rattle.start_system.proofs.Judging.Supports.{corners_long, support_of, file_first}
 use Rattle.start_system.proofs.Making.ValidPaths.{dropped}
@@ -65,7 +65,7 @@ started_by p v h =
     let plain = path_supports 1 supports starts in
     let same : map bare p.supports ≡ map bare plain = sym (bare_all p.supports) ∙ ap (map bare) r.3 in
     let ranked : p.supports ≡ ranked_supports p.version (map length supports) plain =
-        v.ranks ∙ same_ranked p.version p.files p.supports plain same ∙ ap (λ files. ranked_supports p.version files plain) (sym r.4) in
+    v.ranks ∙ same_ranked p.version p.files p.supports plain same ∙ ap (λ files. ranked_supports p.version files plain) (sym r.4) in
     (starts, (r.1 ∙ v.shape.problem.supports, r.2), λ i. record { version = p.version; dimension = p.dimension; files = sym r.4 i; supports = ranked i })
 
 -- ---- and back
@@ -83,9 +83,13 @@ bare_corners i points starts = ap (λ (xs : List Point). corner (least_coordinat
 
 back_one : (n i f : ℕ) (s : List Point) (z : List ℤ) → f ≤ length s → length z ≡ n - 1 → Each z (λ z. pos 1 ≤ℤ z)
     → bare s ≡ bare (map resting (map held (take f s)) ++ corners i (map held (take f s)) z) → HasPathCorners n i f s
-back_one n i f s z l e h is = (z, e, h,
-    map_drop (with_rank 0) f s ∙ ap (drop f) is ∙ sym (map_drop (with_rank 0) f (map resting points ++ corners i points z))
-    ∙ ap bare (ap (λ j. drop j (map resting points ++ corners i points z)) (sym count) ∙ dropped points (corners i points z)) ∙ bare_corners i points z)
+back_one n i f s z l e h is = (
+  z,
+  e,
+  h,
+  map_drop (with_rank 0) f s ∙ ap (drop f) is ∙ sym (map_drop (with_rank 0) f (map resting points ++ corners i points z))
+      ∙ ap bare (ap (λ j. drop j (map resting points ++ corners i points z)) (sym count) ∙ dropped points (corners i points z)) ∙ bare_corners i points z,
+)
   where
     points : List FilePoint
     points = map held (take f s)
@@ -110,12 +114,12 @@ at_places P p v h =
     let nf = corners_long p v.shape.corners in
     let ns = v.shape.problem.supports in
     each_support_from P 1 p.files p.supports nf (λ k e d l.
-        let a : suc k ≡ 1 + k = omega arith in
-        let o : suc k - 1 ≡ k = omega arith in
-        let ef : file_count_at p (suc k) ≡ get_or p.files k e = ap (λ j. get_or p.files j 0) o ∙ same_read p.files k 0 e (omega (arith, l, nf)) in
-        let es : support_at p (suc k) ≡ get_or p.supports k d = ap (λ j. get_or p.supports j []) o ∙ same_read p.supports k [] d l in
-        subst (λ j. P j (get_or p.files k e) (get_or p.supports k d)) a
-        (subst (λ f. P (suc k) f (get_or p.supports k d)) ef (subst (λ s. P (suc k) (file_count_at p (suc k)) s) es (h k (omega (arith, l, ns))))))
+    let a : suc k ≡ 1 + k = omega arith in
+    let o : suc k - 1 ≡ k = omega arith in
+    let ef : file_count_at p (suc k) ≡ get_or p.files k e = ap (λ j. get_or p.files j 0) o ∙ same_read p.files k 0 e (omega (arith, l, nf)) in
+    let es : support_at p (suc k) ≡ get_or p.supports k d = ap (λ j. get_or p.supports j []) o ∙ same_read p.supports k [] d l in
+    subst (λ j. P j (get_or p.files k e) (get_or p.supports k d)) a
+    (subst (λ f. P (suc k) f (get_or p.supports k d)) ef (subst (λ s. P (suc k) (file_count_at p (suc k)) s) es (h k (omega (arith, l, ns))))))
 
 at_place_of : (P : ℕ → ℕ → List Point → Type 0) (p : Problem) → IsValidProblem p → EachSupport 1 p.files p.supports P → (j : ℕ) → j < p.dimension → P (suc j) (file_count_at p (suc j)) (support_at p (suc j))
 at_place_of P p v h j l =
@@ -143,6 +147,6 @@ pub started_all : (p : Problem) → IsValidProblem p → IsStarted p → (j : �
 started_all p v h =
     let supports = map (map held) (first_points p.files p.supports) in
     let is : map bare p.supports ≡ map bare (path_supports 1 supports h.0) =
-        ap (λ (q : Problem). map bare q.supports) h.2 ∙ bare_ranked p.version (map length supports) (path_supports 1 supports h.0) in
+    ap (λ (q : Problem). map bare q.supports) h.2 ∙ bare_ranked p.version (map length supports) (path_supports 1 supports h.0) in
     let there = at_places (λ i f s. f ≤ length s) p v (λ j l. file_first p (suc j) (support_of p v (suc j) (omega arith) (omega (arith, l)))) in
     at_place_of (HasPathCorners p.dimension) p v (back_all p.dimension 1 p.files p.supports h.0 (h.1.0 ∙ sym v.shape.problem.supports) h.1.1 there is)

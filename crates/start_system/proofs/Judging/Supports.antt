@@ -1,9 +1,9 @@
 -- what holds of one support of a valid problem
 use Rattle.std.proofs.Common.{◌≡◌, ◌⊎◌, ℕ, zero, suc, ◌+◌, ◌-◌, ◌<◌, ◌≤◌, List, [], ◌∷◌, length, map, take, drop, get_or, arith, refl, sym, ap, subst, ◌∙◌, inl, inr}
-use Rattle.std.proofs.Math.IntN.{ℤ, pos}
+use Rattle.std.proofs.Math.IntN.{pos}
 use Rattle.std.proofs.lemmas.List.{length-take, length-map}
 use Rattle.int_vectors.specs.Vectors.{Each}
-use Rattle.cayley.specs.Problems.{Point, Problem, EachSupport, HasCorners, with_rank, origin, point_at}
+use Rattle.cayley.specs.Problems.{Point, Problem, HasCorners, with_rank, origin, point_at}
 use Rattle.cayley.specs.Files.{FilePoint}
 use Rattle.cayley.specs.Stored.{held}
 use Rattle.cayley.specs.Valid.{IsCoordinate, IsValidProblem, IsWithinProblem, support_at, file_count_at}

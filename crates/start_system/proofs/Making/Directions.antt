@@ -1,5 +1,5 @@
 -- the corners of the directions, one after the other
-use Rattle.std.proofs.Common.{◌≡◌, ℕ, zero, suc, ◌+◌, ◌-◌, ◌<◌, ◌≤◌, List, [], ◌∷◌, length, get_or, arith, refl, sym, ap, ◌∙◌}
+use Rattle.std.proofs.Common.{◌≡◌, ℕ, zero, suc, ◌+◌, ◌-◌, ◌<◌, ◌≤◌, List, [], ◌∷◌, length, get_or, arith, refl, ap, ◌∙◌}
 use Rattle.std.proofs.Math.IntN.{ℤ, pos}
 use Rattle.int_vectors.specs.Vectors.{at, add, at_place}
 use Rattle.cayley.specs.Problems.{Point, origin}

@@ -6,7 +6,7 @@ use Rattle.std.proofs.lemmas.Int.{ints}
 use Rattle.std.proofs.lemmas.List.{take_all, ext_get_or}
 use Rattle.int_vectors.specs.Vectors.{Each, at, add, sub, at_place}
 use Rattle.cayley.specs.Paths.{sum_of}
-use Rattle.cayley.specs.Valid.{IsCoordinate, IsCornerCoordinate}
+use Rattle.cayley.specs.Valid.{IsCoordinate}
 use Rattle.cayley.proofs.Algebra.ScaledInverse.{at-add}
 use Rattle.cayley.proofs.Lists.Each.{all_each}
 

@@ -1,12 +1,11 @@
 -- the numbers of a path's points are within their limits
-use Rattle.std.proofs.Common.{◌≡◌, ℕ, zero, suc, ◌+◌, ◌*◌, ◌-◌, ◌<◌, ◌≤◌, List, [], ◌∷◌, ◌++◌, length, map, take, drop, arith, refl, sym, ap, subst, ◌∙◌, ◌≤ℤ◌}
-use Rattle.std.proofs.Math.IntN.{ℤ, pos, ◌+ℤ◌}
+use Rattle.std.proofs.Common.{◌≡◌, ℕ, zero, suc, ◌+◌, ◌*◌, ◌-◌, ◌<◌, ◌≤◌, List, [], ◌∷◌, length, arith, sym, ◌∙◌, ◌≤ℤ◌}
+use Rattle.std.proofs.Math.IntN.{ℤ, pos}
 use Rattle.std.proofs.lemmas.Int.{ints, int_max_is}
 use Rattle.int_vectors.specs.Vectors.{Each, add, sub, at_place}
-use Rattle.cayley.specs.Problems.{Point}
-use Rattle.cayley.specs.Files.{FilePoint, resting}
-use Rattle.cayley.specs.Paths.{corner, corners, least_coordinates, sum_of, reach, later_corners, direction_corners}
-use Rattle.cayley.specs.Valid.{IsCoordinate, IsCornerCoordinate, IsStart, IsWithinFile, IsWithinProblem, IsWithinCorners}
+use Rattle.cayley.specs.Files.{FilePoint}
+use Rattle.cayley.specs.Paths.{corners, least_coordinates, sum_of, reach, later_corners, direction_corners}
+use Rattle.cayley.specs.Valid.{IsCoordinate, IsCornerCoordinate, IsStart, IsWithinCorners}
 use Rattle.cayley.proofs.Lists.Each.{each_weaker}
 use Rattle.start_system.specs.Corners.{ArePoints}
 use Rattle.start_system.proofs.Path.Reach.{reach_positive}

@@ -1,12 +1,12 @@
 -- of a valid problem no fault is left but want of memory
-use Rattle.std.proofs.Common.{◌≡◌, ◌⊎◌, ℕ, suc, ◌+◌, ◌-◌, ◌<◌, ◌≤◌, List, [], length, map, take, drop, get_or, Result, Ok, Err, MatchResult, arith, refl, sym, ap, subst, ◌∙◌, inl, inr}
+use Rattle.std.proofs.Common.{◌≡◌, ℕ, ◌+◌, ◌-◌, ◌<◌, ◌≤◌, List, [], length, map, take, drop, Result, Ok, Err, MatchResult, arith, refl, sym, subst, ◌∙◌, inl, inr}
 use Rattle.std.proofs.Math.IntN.{ℤ}
-use Rattle.std.proofs.lemmas.List.{length-map, length-take, length-drop}
+use Rattle.std.proofs.lemmas.List.{length-take, length-drop}
 use native.Mathlib.Decide.{dec_le}
 use Rattle.int_vectors.specs.Vectors.{Each}
 use Rattle.cayley.specs.declared.faults.ShapeFault.{ShapeFault}
 use Rattle.cayley.specs.declared.faults.ShapeFault.TheVariants.{BadShape, Repeated, Range, StartRange, OutOfMemory}
-use Rattle.cayley.specs.Problems.{Point, Problem, IsStill, point_at, origin}
+use Rattle.cayley.specs.Problems.{Point, Problem, IsStill, origin}
 use Rattle.cayley.specs.Files.{File}
 use Rattle.cayley.specs.Paths.{path}
 use Rattle.cayley.specs.Shapes.{IsFaultyOf, IsOutsideOf, IsRepeat, IsProblemFault}
@@ -15,7 +15,7 @@ use Rattle.cayley.proofs.Lists.Each.{all_each, read_take, read_drop, read_past}
 use Rattle.cayley.proofs.Lists.Supports.{each_support_at}
 use Rattle.start_system.proofs.Started.SearchLaws.{path_law}
 use Rattle.start_system.proofs.Making.ValidPaths.{path_valid}
-use Rattle.start_system.proofs.Judging.Supports.{SupportAt, support_of, file_first, corners_long}
+use Rattle.start_system.proofs.Judging.Supports.{support_of, file_first, corners_long}
 
 not_outside : (f : ℕ) (s : List Point) (q : ℕ) → f ≤ length s → Each (take f s) IsWithinProblem → Each (drop f s) IsWithinCorners → ¬ (IsOutsideOf f s q)
 not_outside f s q l h g (inl (a, b, n)) =

@@ -1,7 +1,7 @@
 -- the supports of a path, one after the other, and the parts that a file gives
-use Rattle.std.proofs.Common.{◌≡◌, ℕ, zero, suc, ◌+◌, ◌-◌, ◌<◌, ◌≤◌, List, [], ◌∷◌, ◌++◌, length, map, take, get_or, Result, Ok, Err, IfOk, arith, refl, sym, ap, ap₂, subst, ◌∙◌}
+use Rattle.std.proofs.Common.{◌≡◌, ℕ, zero, suc, ◌+◌, ◌<◌, ◌≤◌, List, [], ◌∷◌, ◌++◌, length, map, take, get_or, Result, Ok, Err, IfOk, arith, refl, sym, ap, ap₂, subst, ◌∙◌}
 use Rattle.std.proofs.Math.IntN.{ℤ}
-use Rattle.std.proofs.lemmas.List.{length-map, map-append}
+use Rattle.std.proofs.lemmas.List.{length-map}
 use Rattle.int_vectors.specs.Vectors.{Each}
 use Rattle.cayley.specs.Problems.{Point}
 use Rattle.cayley.specs.Files.{FilePoint, File, resting}
@@ -9,11 +9,11 @@ use Rattle.cayley.specs.declared.points.FilePoint.{FilePoint as StoredFilePoint}
 use Rattle.cayley.specs.Stored.{file_point}
 use Rattle.cayley.specs.Paths.{corners, path_supports, starts_of}
 use Rattle.cayley.specs.Valid.{IsCoordinate, IsValidFile, IsWithinFile}
-use Rattle.cayley.proofs.Lists.Each.{all_each, each_unmap, each_both, each_weaker, map_at, map_map, map_same}
+use Rattle.cayley.proofs.Lists.Each.{all_each, each_unmap, each_weaker, map_at, map_map, map_same}
 use Rattle.start_system.specs.Corners.{ArePoints, ArePathParts}
 use Rattle.start_system.proofs.Path.Supports.{AreHeights}
 use Rattle.start_system.proofs.Started.Heights.{valid_lift}
-use Rattle.start_system.proofs.Making.Entries.{take_next, next_taken, last_taken}
+use Rattle.start_system.proofs.Making.Entries.{next_taken, last_taken}
 
 pub length-path : (i : ℕ) (supports : List (List FilePoint)) (starts : List (List ℤ)) → length (path_supports i supports starts) ≡ length supports
 length-path i [] starts = refl

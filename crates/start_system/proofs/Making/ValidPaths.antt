@@ -1,20 +1,20 @@
 -- the path of a valid file is a valid problem
-use Rattle.std.proofs.Common.{◌≡◌, ℕ, zero, suc, ◌+◌, ◌-◌, ◌<◌, ◌≤◌, List, [], ◌∷◌, ◌++◌, length, map, take, drop, get_or, arith, refl, sym, ap, subst, ◌∙◌, inl, inr}
-use Rattle.std.proofs.Math.IntN.{ℤ, pos, ◌+ℤ◌}
+use Rattle.std.proofs.Common.{◌≡◌, ℕ, suc, ◌+◌, ◌<◌, ◌≤◌, List, [], ◌∷◌, ◌++◌, length, map, take, drop, get_or, arith, refl, sym, ap, subst, ◌∙◌, inl, inr}
+use Rattle.std.proofs.Math.IntN.{ℤ, pos}
 use Rattle.std.proofs.lemmas.Int.{ints}
-use Rattle.std.proofs.lemmas.List.{length-map, length-drop}
+use Rattle.std.proofs.lemmas.List.{length-drop}
 use Rattle.int_vectors.specs.Vectors.{Each}
-use Rattle.cayley.specs.Problems.{Version, Point, Problem, EachSupport, HasRanks, IsStill, point_at, with_rank, ranked_supports}
+use Rattle.cayley.specs.Problems.{Version, Point, EachSupport, point_at, with_rank, ranked_supports}
 use Rattle.cayley.specs.declared.points.Support.{Support}
 use Rattle.cayley.specs.Stored.{point, problem_of}
 use Rattle.cayley.specs.Files.{FilePoint, File, resting}
 use Rattle.cayley.specs.Paths.{corners, path_supports, path, starts_of}
-use Rattle.cayley.specs.Valid.{IsStart, IsMoving, AreDistinct, IsWithinFile, IsWithinProblem, IsWithinCorners, IsValidFile, IsValidProblem}
-use Rattle.cayley.proofs.Lists.Each.{map_map, map_take, map_drop, each_map, each_unmap, read_drop}
-use Rattle.start_system.specs.Corners.{ArePoints, ArePathParts}
+use Rattle.cayley.specs.Valid.{IsStart, AreDistinct, IsWithinFile, IsWithinProblem, IsWithinCorners, IsValidFile, IsValidProblem}
+use Rattle.cayley.proofs.Lists.Each.{map_map, map_take, map_drop, each_map, read_drop}
+use Rattle.start_system.specs.Corners.{ArePoints}
 use Rattle.start_system.proofs.Path.Positions.{from_zero, point_suc}
 use Rattle.start_system.proofs.Path.Shape.{Shapes, corner_speed}
-use Rattle.start_system.proofs.Path.Forms.{Longs, HasForm, path_form, form_well}
+use Rattle.start_system.proofs.Path.Forms.{Longs, path_form, form_well}
 use Rattle.start_system.proofs.Started.Heights.{valid_lift, starts_small}
 use Rattle.start_system.proofs.Started.Reranking.{same_ranked, bare_ranked, taken}
 use Rattle.start_system.proofs.Started.SearchLaws.{form_still}

@@ -1,11 +1,11 @@
 -- the start heights of a file, given or default, and the path of a valid file
-use Rattle.std.proofs.Common.{◌≡◌, ◌≢◌, mod-lt, ℕ, zero, suc, ◌+◌, ◌*◌, ◌%◌, ◌-◌, ◌<◌, ◌≤◌, ◌==◌, Bool, true, false, if◌then◌else◌, List, [], ◌∷◌, Option, None, Some, MatchOption, length, arith, refl, sym, ap, subst, ◌∙◌, ◌≤ℤ◌}
-use Rattle.std.proofs.lemmas.Bool.{eq-eqb, eqb-true}
+use Rattle.std.proofs.Common.{◌≡◌, ◌≢◌, mod-lt, ℕ, zero, suc, ◌+◌, ◌*◌, ◌%◌, ◌-◌, ◌<◌, ◌≤◌, ◌==◌, Bool, true, false, if◌then◌else◌, List, ◌∷◌, Option, None, Some, MatchOption, length, arith, refl, sym, ap, subst, ◌∙◌, ◌≤ℤ◌}
+use Rattle.std.proofs.lemmas.Bool.{eq-eqb}
 use Rattle.std.proofs.lemmas.Int.{ints}
 use Rattle.std.proofs.Math.IntN.{ℤ, pos}
 use native.Mathlib.Decide.{ℕ_discrete}
 use Rattle.int_vectors.specs.Vectors.{Each}
-use Rattle.cayley.specs.Files.{FilePoint, File}
+use Rattle.cayley.specs.Files.{File}
 use Rattle.cayley.specs.Paths.{default_start, default_starts_from, default_starts, starts_of}
 use Rattle.cayley.specs.Valid.{IsStart, IsValidFile}
 use Rattle.cayley.proofs.Lists.Each.{each_both, each_weaker}

@@ -1,7 +1,7 @@
 -- ranks are given by version and place alone, and the file points of a path are those of its file
-use Rattle.std.proofs.Common.{◌≡◌, ℕ, zero, suc, ◌+◌, ◌<◌, ◌≤◌, Bool, true, false, if◌then◌else◌, List, [], ◌∷◌, ◌++◌, length, map, take, min, ◌-◌, arith, refl, sym, ap, ap₂, ◌∙◌}
+use Rattle.std.proofs.Common.{◌≡◌, ℕ, suc, ◌+◌, Bool, true, false, if◌then◌else◌, List, [], ◌∷◌, ◌++◌, length, map, take, min, ◌-◌, refl, sym, ap, ap₂, ◌∙◌}
 use Rattle.std.proofs.Math.IntN.{ℤ}
-use Rattle.cayley.specs.Problems.{Version, version1, version2, Point, Problem, with_rank, is_start_corner, numbered, ranks_in, numbered_supports, ranked_supports, first_points, file_points}
+use Rattle.cayley.specs.Problems.{Version, version1, version2, Point, with_rank, is_start_corner, numbered, ranks_in, numbered_supports, ranked_supports, first_points, file_points}
 use Rattle.cayley.specs.Problems.Version.{version1, version2}
 use Rattle.cayley.specs.Files.{FilePoint, File, resting, plain_problem}
 use Rattle.cayley.specs.Stored.{held}

@@ -1,9 +1,8 @@
-use Rattle.std.proofs.Common.{rules, ◌≡◌, ◌∙◌, ◌+◌, ◌-◌, ◌≤◌, ◌<◌, ℕ, suc, take, get_or, length, ap, sym, subst, arith, refl}
+use Rattle.std.proofs.Common.{rules, ◌≡◌, ◌∙◌, ◌+◌, ◌-◌, ℕ, get_or, ap, sym, subst, arith, refl}
 use Rattle.cayley.specs.Cells.{IsOf}
-use Rattle.cayley.specs.Paths.{start_cell}
-use Rattle.cayley.specs.Valid.{IsValidCell, file_count_at}
+use Rattle.cayley.specs.Valid.{IsValidCell}
 use Rattle.start_system.specs.Started.{IsOnlyEarly}
-use Rattle.start_system.proofs.Judging.Supports.{SupportAt, support_of}
+use Rattle.start_system.proofs.Judging.Supports.{support_of}
 use Rattle.start_system.proofs.Judging.StartPairs.{next_pair, all_pairs, valid_pairs}
 use Rattle.start_system.proofs.Started.SearchLaws.{started_law}
 use Rattle.start_system.proofs.beginning.start_cell.Goals as goal

@@ -1,10 +1,9 @@
-use Rattle.std.proofs.Common.{rules, ◌≡◌, ◌∙◌, ◌+◌, ◌-◌, ◌<◌, ◌≤◌, ℕ, suc, ap, length, sym, subst, arith, IsTrue, refl, FitsSigned}
+use Rattle.std.proofs.Common.{rules, ◌≡◌, ◌∙◌, ◌+◌, ◌-◌, suc, ap, length, sym, subst, arith, IsTrue, refl, FitsSigned}
 use Rattle.std.proofs.Math.Facts.{to_z-of_z}
 use Rattle.std.specs.Int.{w128}
 use Rattle.int_vectors.specs.Vectors.{Each}
 use Rattle.cayley.specs.Problems.{Point, with_rank, point_at}
 use Rattle.cayley.specs.Stored.{point}
-use Rattle.cayley.specs.Paths.{least_coordinates}
 use Rattle.cayley.specs.Valid.{IsCoordinate, support_at, file_count_at}
 use Rattle.start_system.specs.Corners.{points_at, direction_corner_at, IsFirstOf, IsDirectionOf}
 use Rattle.start_system.proofs.Judging.Supports.{support_of, with_corners_there, moving_at}
@@ -254,9 +253,11 @@ returns-then-not-is_direction c =
     let is = simp to_z-of_z at c.is_direction.ensures in
     let n : ¬ (IsTrue c.is_direction.result) = search rules in
     let r : c.file_count-first.result + 1 + c.loop-k.k + 1 ≡ suc (f + suc c.loop-k.k) = omega (arith, e) in
-    let other : point c.point-other.result.now ≡ with_rank 0 (direction_corner_at p i c.loop-k.k) = c.point-other.ensures.value ∙ ap (λ j. with_rank 0 (point_at s j)) r in
-    (λ t. absurd (no_true t), λ z. absurd (n (is.1 (subst (IsDirectionOf c.point-corner.result.now.coords c.reach-d.result (i - 1) c.loop-k.k) (sym other)
-        (to_direction p.dimension i f s c.point-corner.result.now.coords c.reach-d.result lo hi w.0 c.reach-d.ensures.value z c.loop-k.k (omega (arith, dn, kn)))))))
+    let other : point c.point-other.result.now ≡ with_rank 0 (direction_corner_at p i c.loop-k.k) = c.point-other.ensures.value ∙ ap (λ j. with_rank 0 (point_at s j)) r in (
+      λ t. absurd (no_true t),
+      λ z. absurd (n (is.1 (subst (IsDirectionOf c.point-corner.result.now.coords c.reach-d.result (i - 1) c.loop-k.k) (sym other)
+          (to_direction p.dimension i f s c.point-corner.result.now.coords c.reach-d.result lo hi w.0 c.reach-d.ensures.value z c.loop-k.k (omega (arith, dn, kn)))))),
+    )
 
 pub loop-k-preserved : goal.loop-k-preserved
 loop-k-preserved c =
@@ -278,8 +279,8 @@ loop-k-preserved c =
     let r : c.file_count-first.result + 1 + c.loop-k.k + 1 ≡ suc (f + suc c.loop-k.k) = omega (arith, e) in
     let other : point c.point-other.result.now ≡ with_rank 0 (direction_corner_at p i c.loop-k.k) = c.point-other.ensures.value ∙ ap (λ j. with_rank 0 (point_at s j)) r in
     λ j l. simp to_z-of_z (next_direction (λ j. IsDirectionOf c.point-corner.result.now.coords c.reach-d.result (i - 1) j (direction_corner_at p i j)) c.loop-k.k
-        (λ j l. let inv = simp to_z-of_z at (c.loop-k.invariant j l) in inv)
-        (subst (IsDirectionOf c.point-corner.result.now.coords c.reach-d.result (i - 1) c.loop-k.k) other (is.0 y)) j l)
+    (λ j l. let inv = simp to_z-of_z at (c.loop-k.invariant j l) in inv)
+    (subst (IsDirectionOf c.point-corner.result.now.coords c.reach-d.result (i - 1) c.loop-k.k) other (is.0 y)) j l)
 
 pub returns : goal.returns
 returns c =
@@ -302,6 +303,8 @@ returns c =
     let w = c.is_first.ensures.0 t in
     let dn = c.dim-k-end.ensures.value in
     let kn = c.loop-k-test.false in
-    let fit : FitsSigned w128 c.reach-d.result = search rules in
-    (λ t. from_directions p.dimension i f s c.point-corner.result.now.coords c.reach-d.result lo hi w.0 c.reach-d.ensures.value long (moving_at p v i lo hi) (subst (IsFirstOf points) corner w)
-        (λ k l. let inv = simp to_z-of_z at (c.loop-k.invariant k (omega (arith, dn, kn, l))) in inv), λ z. refl)
+    let fit : FitsSigned w128 c.reach-d.result = search rules in (
+      λ t. from_directions p.dimension i f s c.point-corner.result.now.coords c.reach-d.result lo hi w.0 c.reach-d.ensures.value long (moving_at p v i lo hi) (subst (IsFirstOf points) corner w)
+          (λ k l. let inv = simp to_z-of_z at (c.loop-k.invariant k (omega (arith, dn, kn, l))) in inv),
+      λ z. refl,
+    )

@@ -1,4 +1,4 @@
-use Rattle.std.proofs.Common.{rules, ◌≡◌, ◌∙◌, ◌<◌, sym, arith, length, FitsSigned, w64}
+use Rattle.std.proofs.Common.{rules, ◌∙◌, sym, arith, FitsSigned, w64}
 use Rattle.std.proofs.Math.Facts.{to_z-of_z}
 use Rattle.cayley.specs.Paths.{least_coordinates}
 use Rattle.start_system.specs.Corners.{points_at}

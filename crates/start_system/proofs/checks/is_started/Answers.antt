@@ -1,4 +1,4 @@
-use Rattle.std.proofs.Common.{rules, ◌≡◌, ◌+◌, ◌<◌, suc, subst, arith, refl, IsTrue}
+use Rattle.std.proofs.Common.{rules, ◌≡◌, ◌+◌, suc, subst, arith, refl, IsTrue}
 use Rattle.cayley.specs.Valid.{file_count_at, support_at}
 use Rattle.start_system.specs.Corners.{HasPathCorners}
 use Rattle.start_system.proofs.Judging.Corners.{no_true, next_direction}
@@ -12,9 +12,11 @@ returns-then-not-has_path_corners c =
     let k = c.loop-place.place in
     let o : suc k ≡ k + 1 = omega arith in
     let e = c.dim-place-end.ensures.value in
-    let l = c.loop-place-test.true in
-    (λ t. absurd (no_true t), λ h. absurd (n (c.has_path_corners.ensures.1
-        (subst (λ i. HasPathCorners p.dimension i (file_count_at p i) (support_at p i)) o (started_all p c.dim-place-end.ensures.valid h k (omega (arith, e, l)))))))
+    let l = c.loop-place-test.true in (
+      λ t. absurd (no_true t),
+      λ h. absurd (n (c.has_path_corners.ensures.1
+          (subst (λ i. HasPathCorners p.dimension i (file_count_at p i) (support_at p i)) o (started_all p c.dim-place-end.ensures.valid h k (omega (arith, e, l)))))),
+    )
 
 pub loop-place-preserved : goal.loop-place-preserved
 loop-place-preserved c =

@@ -1,7 +1,6 @@
-use Rattle.std.proofs.Common.{rules, ◌≡◌, ◌∙◌, ◌+◌, ◌<◌, ◌≤◌, ap, length, sym, subst, arith, FitsSigned, to_z}
+use Rattle.std.proofs.Common.{rules, ◌∙◌, ◌<◌, ap, arith, FitsSigned, to_z}
 use Rattle.std.proofs.Math.Facts.{to_z-of_z}
 use Rattle.std.specs.Int.{w128, int_min}
-use Rattle.int_vectors.specs.Vectors.{at}
 use Rattle.cayley.specs.Stored.{held, point}
 use Rattle.cayley.specs.Valid.{support_at, file_count_at}
 use Rattle.start_system.specs.Corners.{points_at}

@@ -1,4 +1,4 @@
-use Rattle.std.proofs.Common.{rules, ◌≡◌, ◌∙◌, ◌<◌, ap, ap₂, map, length, sym, subst, arith, FitsSigned, to_z}
+use Rattle.std.proofs.Common.{rules, ◌≡◌, ◌∙◌, ◌<◌, ap, map, length, sym, subst, arith, FitsSigned, to_z}
 use Rattle.std.proofs.Math.Facts.{to_z-of_z}
 use Rattle.std.specs.Int.{w128, int_min}
 use Rattle.std.proofs.lemmas.List.{length-map}

@@ -1,4 +1,4 @@
-use Rattle.std.proofs.Common.{◌≡◌, ◌∙◌, map, suc, ◌+◌, subst, sym, arith, length}
+use Rattle.std.proofs.Common.{◌≡◌, map, suc, ◌+◌, subst, sym, arith, length}
 use Rattle.int_vectors.specs.Vectors.{Each}
 use Rattle.cayley.specs.Stored.{file_point}
 use Rattle.cayley.specs.Valid.{IsCoordinate}

@@ -1,4 +1,4 @@
-use Rattle.std.proofs.Common.{rules, ◌≡◌, ◌∙◌, ◌++◌, ◌∷◌, [], ◌≤◌, ◌-◌, ap, map, take, length, sym, arith, FitsSigned}
+use Rattle.std.proofs.Common.{rules, ◌≡◌, ◌∙◌, ap, map, arith, FitsSigned}
 use Rattle.std.proofs.Math.Facts.{to_z-of_z}
 use Rattle.std.specs.Int.{w128, w64}
 use Rattle.std.proofs.lemmas.List.{map-append}
@@ -27,9 +27,9 @@ loop-k-preserved c =
     let made = simp to_z-of_z at c.corner.ensures in
     let inv = simp to_z-of_z at c.loop-k.invariant in
     let is : point c.corner.result ≡ _ = made ∙ ap (λ v. corner v c.start_of.result) coordinates
-        ∙ direction_is m c.args.d c.args.own c.loop-k.k starts c.start_of.result c.requires.own (omega (arith, n, e, l)) own before after in
+    ∙ direction_is m c.args.d c.args.own c.loop-k.k starts c.start_of.result c.requires.own (omega (arith, n, e, l)) own before after in
     simp to_z-of_z (ap (map point) c.in_ok-push.ensures ∙ map-append _ _ _
-        ∙ more_behind (direction_corners m c.args.d c.args.own 0 starts) (map point c.args.made.now.items) (map point c.loop-k.made.items) c.loop-k.k (point c.corner.result) origin inv (omega (arith, n, e, l, w)) is)
+    ∙ more_behind (direction_corners m c.args.d c.args.own 0 starts) (map point c.args.made.now.items) (map point c.loop-k.made.items) c.loop-k.k (point c.corner.result) origin inv (omega (arith, n, e, l, w)) is)
 
 pub returns : goal.returns
 returns c =

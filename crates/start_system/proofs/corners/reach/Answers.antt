@@ -1,4 +1,4 @@
-use Rattle.std.proofs.Common.{rules, ◌≡◌, ◌∙◌, ◌<◌, ap, map, length, sym, subst, arith, FitsSigned, to_z, ◌≤ℤ◌}
+use Rattle.std.proofs.Common.{rules, ◌≡◌, ◌∙◌, ◌<◌, map, length, sym, subst, arith, FitsSigned, to_z, ◌≤ℤ◌}
 use Rattle.std.proofs.Math.Facts.{to_z-of_z}
 use Rattle.std.proofs.Math.IntN.{pos}
 use Rattle.std.specs.Int.{w128, int_max}

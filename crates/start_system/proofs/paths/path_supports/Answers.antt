@@ -1,12 +1,12 @@
-use Rattle.std.proofs.Common.{rules, ◌≡◌, ◌∙◌, ◌+◌, ◌<◌, ◌≤◌, ◌++◌, ◌∷◌, [], suc, length, map, take, sym, ap, ap₂, subst, arith}
-use Rattle.std.proofs.lemmas.List.{map-append, length-map, take_all}
+use Rattle.std.proofs.Common.{◌≡◌, ◌∙◌, ◌+◌, ◌≤◌, ◌++◌, ◌∷◌, [], suc, length, map, take, sym, ap, ap₂, subst, arith}
+use Rattle.std.proofs.lemmas.List.{map-append, length-map}
 use Rattle.cayley.specs.declared.points.Support.{Support}
 use Rattle.cayley.specs.Stored.{file_point, point}
 use Rattle.cayley.specs.Files.{resting}
 use Rattle.cayley.specs.Paths.{corners}
 use Rattle.start_system.specs.Corners.{ArePoints}
-use Rattle.start_system.proofs.Making.Entries.{next_taken, take_next}
-use Rattle.start_system.proofs.Making.Parts.{few, same_count, heights_at, counted_at, parts_at, support_more, support_end}
+use Rattle.start_system.proofs.Making.Entries.{take_next}
+use Rattle.start_system.proofs.Making.Parts.{few, heights_at, counted_at, parts_at, support_more, support_end}
 use Rattle.start_system.proofs.paths.path_supports.Goals as goal
 
 pub path_points-requires-clause-dimension : goal.path_points-requires-clause-dimension
@@ -71,7 +71,7 @@ loop-place-preserved c =
           ∙ map-append (λ s. length s.items) (take c.loop-place.place xs) (w ∷ []));
       points = ap (map (λ (s : Support). map point s.points.items)) c.in_ok-push.ensures ∙ map-append (λ (s : Support). map point s.points.items) made _
           ∙ support_more (λ s. map file_point s.items) (λ s. s.items) xs ys c.requires c.loop-place.place x y (map (λ (s : Support). map point s.points.items) made) _ c.loop-place-test.true
-              c.index-supports-place.is c.index-starts-place.is is c.loop-place.invariant.points;
+          c.index-supports-place.is c.index-starts-place.is is c.loop-place.invariant.points;
     }
 
 pub returns-clause-points : goal.returns-clause-points

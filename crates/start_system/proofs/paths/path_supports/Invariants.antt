@@ -1,4 +1,4 @@
-use Rattle.std.proofs.Common.{◌≡◌, ◌++◌, map, take, length}
+use Rattle.std.proofs.Common.{◌≡◌, map, take, length}
 use Rattle.cayley.specs.declared.points.Support.{Support}
 use Rattle.cayley.specs.Stored.{point, file_point}
 use Rattle.cayley.specs.Paths.{path_supports}

@@ -1,4 +1,4 @@
-use Rattle.std.proofs.Common.{◌≡◌, ◌∙◌, ℕ, List, map, length, sym, ap, ap₂, subst, IfOk}
+use Rattle.std.proofs.Common.{◌≡◌, ◌∙◌, ℕ, List, map, sym, ap, ap₂, subst, IfOk}
 use Rattle.cayley.specs.Problems.{Point}
 use Rattle.cayley.specs.Paths.{path_supports, default_starts}
 use Rattle.cayley.specs.declared.points.Support.{Support}

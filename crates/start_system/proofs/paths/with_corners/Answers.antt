@@ -1,7 +1,7 @@
 use Rattle.std.proofs.Common.{◌≡◌, ◌∙◌, sym, ap, subst}
 use Rattle.cayley.specs.Files.{plain_problem}
 use Rattle.cayley.specs.Paths.{path}
-use Rattle.cayley.specs.Problems.{Problem, IsStill, file_points, version2}
+use Rattle.cayley.specs.Problems.{Problem, IsStill, file_points}
 use Rattle.cayley.specs.Ties.{IsTieFree}
 use Rattle.start_system.specs.Started.{IsStarted, IsSearched}
 use Rattle.start_system.proofs.Making.Parts.{if_ok_weaker}

@@ -1,7 +1,7 @@
-use Rattle.std.proofs.Common.{rules, ◌∙◌, sym, refl, ap, ◌<◌, ◌≡◌, arith, length, FitsSigned}
+use Rattle.std.proofs.Common.{rules, ◌∙◌, sym, refl, arith, FitsSigned}
 use Rattle.std.proofs.Math.Facts.{to_z-of_z}
 use Rattle.std.specs.Int.{w128}
-use Rattle.int_vectors.specs.Vectors.{at, add, at_place}
+use Rattle.int_vectors.specs.Vectors.{add, at_place}
 use Rattle.start_system.proofs.Making.Entries.{all_equal, length-moved}
 use Rattle.start_system.proofs.vectors.is_moved.Goals as goal
 

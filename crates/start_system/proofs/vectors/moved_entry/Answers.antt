@@ -1,4 +1,4 @@
-use Rattle.std.proofs.Common.{rules, ◌≡◌, ◌≢◌, ◌∙◌, ap, subst, sym, FitsSigned}
+use Rattle.std.proofs.Common.{rules, ◌∙◌, ap, subst, sym, FitsSigned}
 use Rattle.std.specs.Int.{w128}
 use Rattle.std.proofs.Math.Facts.{to_z-of_z}
 use Rattle.std.proofs.Math.IntN.{◌+ℤ◌}

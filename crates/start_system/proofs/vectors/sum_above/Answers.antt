@@ -1,12 +1,12 @@
-use Rattle.std.proofs.Common.{rules, ◌≡◌, ◌∙◌, ◌+◌, ap₂, ap, subst, sym, arith, length, FitsSigned, to_z}
+use Rattle.std.proofs.Common.{rules, ◌∙◌, ◌+◌, ap₂, subst, sym, arith, FitsSigned, to_z}
 use Rattle.std.specs.Int.{w128}
 use Rattle.std.proofs.Math.Facts.{to_z-of_z}
 use Rattle.std.proofs.Math.IntN.{◌+ℤ◌, ◌-ℤ◌}
 use Rattle.int_vectors.specs.Vectors.{sub}
 use Rattle.cayley.specs.Paths.{sum_of}
 use Rattle.cayley.specs.Valid.{IsCoordinate}
-use Rattle.start_system.proofs.Making.Entries.{small_at, sum_more, sum_end, left_sum}
-use Rattle.start_system.proofs.Making.Numbers.{difference_fits, total_fits, total_high, total_low, total_most}
+use Rattle.start_system.proofs.Making.Entries.{small_at, sum_more, left_sum}
+use Rattle.start_system.proofs.Making.Numbers.{difference_fits, total_fits, total_high, total_low}
 use Rattle.start_system.proofs.vectors.sum_above.Goals as goal
 
 pub overflow_sub-total : goal.overflow_sub-total
