@@ -4,4 +4,6 @@ pub mod Late
 pub mod Complete
 pub mod Perturbed
 pub mod Started
+pub mod Making
+pub mod Judging
 mod Worked

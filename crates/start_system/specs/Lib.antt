@@ -1,2 +1,3 @@
+pub mod Corners
 pub mod Started
 pub mod Laws

@@ -1,13 +1,12 @@
 -- on a tie-free path each cell that is alive at some time has the start cell in its chain
-use Rattle.std.proofs.Common.{◌≡◌, ℕ, List, [], ◌∷◌, length, refl, sym, subst, inl, inr}
+use Rattle.std.proofs.Common.{List, [], ◌∷◌, subst, inl, inr}
 use Rattle.cayley.specs.Times.{Time}
 use Rattle.cayley.specs.Problems.{Problem, IsProblem}
-use Rattle.cayley.specs.Cells.{Cell, IsListOf}
-use Rattle.cayley.specs.Mixed.{IsAlive, IsMixedCell}
-use Rattle.cayley.specs.Lives.{AliveEarly, AliveLate, AliveJustBefore}
-use Rattle.cayley.specs.Parents.{IsParent, IsChain, InChain, IsInTree}
+use Rattle.cayley.specs.Cells.{Cell}
+use Rattle.cayley.specs.Mixed.{IsAlive}
+use Rattle.cayley.specs.Lives.{AliveLate, AliveJustBefore}
+use Rattle.cayley.specs.Parents.{IsParent, IsChain, InChain}
 use Rattle.cayley.specs.Parents.InChain.{here, up}
-use Rattle.cayley.specs.Paths.{start_cell}
 use Rattle.cayley.specs.Ties.{IsTieFree}
 use Rattle.cayley.proofs.Order.Lines.{next, before_next}
 use Rattle.cayley.proofs.Order.Times.{middle}

@@ -1,13 +1,10 @@
 -- the share and the size of the start branch
-use Rattle.std.proofs.Common.{◌≡◌, ◌↔◌, ℕ, List, length}
-use Rattle.cayley.specs.Problems.{Problem, IsProblem}
+use Rattle.std.proofs.Common.{◌↔◌, List}
+use Rattle.cayley.specs.Problems.{Problem}
 use Rattle.cayley.specs.Cells.{Cell, IsOf, IsListOf}
-use Rattle.cayley.specs.Mixed.{IsMixedCell}
-use Rattle.cayley.specs.Lives.{AliveLate}
 use Rattle.cayley.specs.Paths.{start_cell}
-use Rattle.cayley.specs.Shares.{Branch, IsShare, IsSize}
 use Rattle.cayley.specs.Ties.{IsTieFree}
-use Rattle.start_system.specs.Started.{start_branch, IsOnlyEarly, FindsAllMixed, ReachesAllAlive, HasTreeSize}
+use Rattle.start_system.specs.Started.{IsOnlyEarly, FindsAllMixed, ReachesAllAlive, HasTreeSize}
 use Rattle.start_system.proofs.Path.Forms.{HasForm, form_well}
 use Rattle.start_system.proofs.Early.FilePoints.{earlier_time}
 use Rattle.start_system.proofs.Early.Corners.{early_is_start}

@@ -1,5 +1,5 @@
 -- a cell that is alive at all early times has no file point
-use Rattle.std.proofs.Common.{◌≡◌, ℕ, zero, suc, ◌+◌, ◌<◌, ◌≤◌, List, [], ◌∷◌, length, arith, refl, sym, ap, subst, ◌∙◌, inl, inr, ◌≤ℤ◌, ◌<ℤ◌}
+use Rattle.std.proofs.Common.{◌≡◌, ℕ, suc, ◌+◌, ◌<◌, ◌≤◌, List, [], ◌∷◌, length, arith, refl, sym, ap, subst, ◌∙◌, inl, inr, ◌≤ℤ◌, ◌<ℤ◌}
 use Rattle.std.proofs.lemmas.Int.{ints}
 use Rattle.std.proofs.Math.IntN.{ℤ, pos, negsuc, ◌+ℤ◌, ◌-ℤ◌, ◌*ℤ◌, neg_ℤ}
 use borrow.Author.Differences.{up, down}
@@ -15,7 +15,7 @@ use Rattle.wide_int.proofs.Ring.{as_D, Ds, same_D, D-pos, one_mul_ℤ, neg_mul_�
 use Rattle.wide_int.proofs.Order.{sign_cases, mul_pos_neg_ℤ}
 use Rattle.cayley.proofs.Algebra.ScaledInverse.{at-add, at-scale}
 use Rattle.cayley.proofs.Algebra.RowNormals.{entry}
-use Rattle.cayley.proofs.OneCell.CellLines.{base_of, height-at}
+use Rattle.cayley.proofs.OneCell.CellLines.{height-at}
 use Rattle.cayley.proofs.Flipping.Neighbours.{potential, gap-potential, level_self}
 use Rattle.cayley.proofs.Order.Lines.{NotNegative}
 use Rattle.start_system.proofs.Early.Values.{base_first}

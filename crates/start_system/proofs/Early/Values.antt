@@ -1,8 +1,8 @@
 -- signs of sums of values, gaps turned round, and the least of a normal's values
 use Rattle.std.proofs.Common.{◌≡◌, ◌⊎◌, ℕ, zero, suc, ◌<◌, List, [], ◌∷◌, length, arith, refl, ap, ◌∙◌, inl, inr, ◌<ℤ◌}
 use Rattle.std.proofs.lemmas.Int.{ints}
-use Rattle.std.proofs.Math.IntN.{ℤ, pos, ◌+ℤ◌, ◌-ℤ◌, ◌*ℤ◌, neg_ℤ}
-use Rattle.int_vectors.specs.Vectors.{IsZero, IsPositive, at, add, sub, scale}
+use Rattle.std.proofs.Math.IntN.{ℤ, pos, ◌+ℤ◌, ◌-ℤ◌, neg_ℤ}
+use Rattle.int_vectors.specs.Vectors.{IsZero, IsPositive, at, sub, scale}
 use Rattle.cayley.specs.Times.{Time}
 use Rattle.cayley.specs.Problems.{Point}
 use Rattle.cayley.specs.Normals.{Normal, mark, gap}

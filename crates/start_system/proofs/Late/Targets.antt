@@ -1,5 +1,5 @@
 -- a problem of a path's form begins with the points of its target, whose ranks are in the same order
-use Rattle.std.proofs.Common.{◌≡◌, ◌⊎◌, ℕ, zero, suc, ◌+◌, ◌-◌, ◌<◌, ◌≤◌, List, [], ◌∷◌, length, map, take, min, length-take, arith, refl, sym, ap, subst, ◌∙◌, inl, inr}
+use Rattle.std.proofs.Common.{◌≡◌, ◌⊎◌, ℕ, zero, suc, ◌+◌, ◌-◌, ◌<◌, ◌≤◌, List, [], ◌∷◌, length, map, take, length-take, arith, refl, sym, ap, subst, ◌∙◌, inl, inr}
 use Rattle.cayley.specs.Problems.{Version, version1, version2, Point, Problem, point_at, with_rank, numbered, ranks_in, numbered_supports, ranked_supports, first_points, file_points}
 use Rattle.cayley.specs.Problems.Version.{version1, version2}
 use Rattle.cayley.specs.Cells.{Cell}

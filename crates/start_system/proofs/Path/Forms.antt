@@ -1,16 +1,16 @@
 -- the form of a problem that the proofs use, and the path of a file has it
-use Rattle.std.proofs.Common.{◌≡◌, ◌⊎◌, ℕ, zero, suc, ◌+◌, ◌<◌, ◌≤◌, List, [], ◌∷◌, ◌++◌, length, map, min, arith, refl, sym, ap, subst, ◌∙◌}
+use Rattle.std.proofs.Common.{◌≡◌, ℕ, suc, ◌+◌, ◌<◌, ◌≤◌, List, [], ◌∷◌, ◌++◌, length, map, arith, refl, sym, ap, subst, ◌∙◌}
 use Rattle.std.proofs.Math.IntN.{ℤ}
 use Rattle.int_vectors.specs.Vectors.{Each}
-use Rattle.cayley.specs.Problems.{Version, version1, version2, Point, Problem, IsProblem, EachSupport, point_at, with_rank, numbered, ranks_in, numbered_supports, ranked_supports}
+use Rattle.cayley.specs.Problems.{Version, version1, version2, Point, Problem, IsProblem, EachSupport, point_at, with_rank, ranks_in, numbered_supports, ranked_supports}
 use Rattle.cayley.specs.Problems.Version.{version1, version2}
 use Rattle.cayley.specs.Files.{FilePoint, File, resting}
 use Rattle.cayley.specs.Paths.{corners, path_supports, path, starts_of}
 use Rattle.cayley.proofs.Algebra.Kernel.{length-map}
 use Rattle.start_system.proofs.Path.Positions.{from_zero, point_suc}
 use Rattle.start_system.proofs.Path.Reach.{Long}
-use Rattle.start_system.proofs.Path.Shape.{Shape, Shapes}
-use Rattle.start_system.proofs.Path.Numbering.{Reranked, unranked, numbered_reranked}
+use Rattle.start_system.proofs.Path.Shape.{Shapes}
+use Rattle.start_system.proofs.Path.Numbering.{unranked, numbered_reranked}
 use Rattle.start_system.proofs.Path.Supports.{AreHeights, support_long, support_shape}
 
 -- each support has some file points, and a corner more than the dimension behind them

@@ -61,7 +61,7 @@ later_at m d k (z ∷ starts) e (suc j) l =
     let o : suc k + j ≡ k + suc j = omega arith in
     subst (λ i. IsCorner m d i (from_zero (later_corners m d (suc k) starts) j)) o (later_at m d (suc k) starts e.1 j (omega arith))
 
-abbrev IsDirection : List ℤ → ℤ → ℕ → ℕ → ℕ → Point → Type 0
+abbrev pub IsDirection : List ℤ → ℤ → ℕ → ℕ → ℕ → Point → Type 0
 IsDirection m d own j k p = (p.coordinates ≡ add m (at_place k d)) × (p.speed ≡ pos 1) × (j ≡ own → p.base ≡ pos 0) × (j ≢ own → pos 0 <ℤ p.base)
 
 direction_at : (m : List ℤ) (d : ℤ) (own k : ℕ) (starts : List ℤ) → Each starts (λ z. pos 1 ≤ℤ z) → own ≤ length starts → (j : ℕ) → j < suc (length starts)
@@ -83,7 +83,7 @@ direction_at m d (suc own) k (z ∷ starts) e w (suc j) l =
     let c = direction_at m d own (suc k) starts e.1 (omega arith) j (omega arith) in
     (c.0 ∙ ap (λ i. add m (at_place i d)) o, c.1, (λ z. c.2 (omega arith)), (λ n. c.3 (λ z. n (ap suc z))))
 
-direction_from_zero : (m : List ℤ) (d : ℤ) (own : ℕ) (starts : List ℤ) → Each starts (λ z. pos 1 ≤ℤ z) → own ≤ length starts → (k : ℕ) → k < suc (length starts)
+pub direction_from_zero : (m : List ℤ) (d : ℤ) (own : ℕ) (starts : List ℤ) → Each starts (λ z. pos 1 ≤ℤ z) → own ≤ length starts → (k : ℕ) → k < suc (length starts)
     → IsDirection m d own k k (from_zero (direction_corners m d own 0 starts) k)
 direction_from_zero m d own starts e w k l =
     let o : 0 + k ≡ k = omega arith in

@@ -1,5 +1,5 @@
 -- in version 2 all points but the start corners have ranks of their own
-use Rattle.std.proofs.Common.{◌≡◌, ◌≢◌, ◌⊎◌, ℕ, zero, suc, ◌+◌, ◌-◌, ◌<◌, ◌≤◌, List, [], ◌∷◌, length, min, arith, refl, sym, ap, subst, ◌∙◌, inl, inr}
+use Rattle.std.proofs.Common.{◌≡◌, ◌≢◌, ◌⊎◌, ℕ, zero, suc, ◌+◌, ◌-◌, ◌<◌, ◌≤◌, List, [], ◌∷◌, length, arith, refl, sym, ap, subst, ◌∙◌, inl, inr}
 use Rattle.cayley.specs.Problems.{Point, point_at, numbered, ranks_in, numbered_supports}
 use Rattle.start_system.proofs.Path.Numbering.{Ranked, RankInfo, numbered_rank, numbered_reranked}
 use Rattle.start_system.proofs.Path.Forms.{Longs}

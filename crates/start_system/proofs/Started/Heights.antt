@@ -1,11 +1,11 @@
 -- the start heights of a file, given or default, and the path of a valid file
-use Rattle.std.proofs.Common.{◌≡◌, ◌≢◌, ℕ, zero, suc, ◌+◌, ◌-◌, ◌<◌, ◌≤◌, ◌==◌, Bool, true, false, if◌then◌else◌, List, [], ◌∷◌, Option, None, Some, MatchOption, length, arith, refl, sym, ap, subst, ◌∙◌, ◌≤ℤ◌}
-use Rattle.std.proofs.lemmas.Bool.{eq-eqb, eqb-true}
+use Rattle.std.proofs.Common.{◌≡◌, ◌≢◌, mod-lt, ℕ, zero, suc, ◌+◌, ◌*◌, ◌%◌, ◌-◌, ◌<◌, ◌≤◌, ◌==◌, Bool, true, false, if◌then◌else◌, List, ◌∷◌, Option, None, Some, MatchOption, length, arith, refl, sym, ap, subst, ◌∙◌, ◌≤ℤ◌}
+use Rattle.std.proofs.lemmas.Bool.{eq-eqb}
 use Rattle.std.proofs.lemmas.Int.{ints}
 use Rattle.std.proofs.Math.IntN.{ℤ, pos}
 use native.Mathlib.Decide.{ℕ_discrete}
 use Rattle.int_vectors.specs.Vectors.{Each}
-use Rattle.cayley.specs.Files.{FilePoint, File}
+use Rattle.cayley.specs.Files.{File}
 use Rattle.cayley.specs.Paths.{default_start, default_starts_from, default_starts, starts_of}
 use Rattle.cayley.specs.Valid.{IsStart, IsValidFile}
 use Rattle.cayley.proofs.Lists.Each.{each_both, each_weaker}
@@ -83,3 +83,33 @@ valid_lift file v =
       starts = h.0;
       heights = h.1;
     }
+
+-- ---- their limits
+default_small : (i k : ℕ) → IsStart (default_start i k)
+default_small i k = let m : (37 * i * i + 11 * k * k * k + 53 * i * k) % 509 < 509 = mod-lt (37 * i * i + 11 * k * k * k + 53 * i * k) (omega arith) in (omega (arith, ints), omega (arith, ints, m))
+
+each_small : (i k left : ℕ) → Each (default_starts_from i k left) IsStart
+each_small i k zero = tt
+each_small i k (suc left) = elim (ℕ_discrete k i) [
+  | yes e ↦ subst (λ (xs : List ℤ). Each xs IsStart) (sym (own_left_out i k left e)) (each_small i (suc k) left)
+  | no n ↦ subst (λ (xs : List ℤ). Each xs IsStart) (sym (other_first i k left n)) (default_small i k, each_small i (suc k) left)
+]
+
+rows_small : (n i left : ℕ) → Each (default_starts n i left) (λ s. Each s IsStart)
+rows_small n i zero = tt
+rows_small n i (suc left) = (each_small i 1 n, rows_small n (suc i) left)
+
+pub default_given : (file : File) → file.starts ≡ None → starts_of file ≡ default_starts file.dimension 1 file.dimension
+default_given file e = ap (λ (s : Option (List (List ℤ))). starts_of (record file { starts = s })) e
+
+pub own_given : (file : File) (starts : List (List ℤ)) → file.starts ≡ Some starts → starts_of file ≡ starts
+own_given file starts e = ap (λ (s : Option (List (List ℤ))). starts_of (record file { starts = s })) e
+
+small_given : (file : File) → IsValidFile file → (given : Option (List (List ℤ))) → file.starts ≡ given → Each (starts_of file) (λ s. Each s IsStart)
+small_given file v None e = subst (λ (ss : List (List ℤ)). Each ss (λ s. Each s IsStart)) (sym (default_given file e)) (rows_small file.dimension 1 file.dimension)
+small_given file v (Some starts) e =
+    subst (λ (ss : List (List ℤ)). Each ss (λ s. Each s IsStart)) (sym (own_given file starts e))
+    (subst (λ (s : Option (List (List ℤ))). MatchOption s (Unit {0}) (λ starts. Each starts (λ s. Each s IsStart))) e v.starts)
+
+pub starts_small : (file : File) → IsValidFile file → Each (starts_of file) (λ s. Each s IsStart)
+starts_small file v = small_given file v file.starts refl

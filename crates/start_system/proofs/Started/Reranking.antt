@@ -1,7 +1,7 @@
 -- ranks are given by version and place alone, and the file points of a path are those of its file
-use Rattle.std.proofs.Common.{◌≡◌, ℕ, zero, suc, ◌+◌, ◌<◌, ◌≤◌, Bool, true, false, if◌then◌else◌, List, [], ◌∷◌, ◌++◌, length, map, take, min, ◌-◌, arith, refl, sym, ap, ap₂, ◌∙◌}
+use Rattle.std.proofs.Common.{◌≡◌, ℕ, suc, ◌+◌, Bool, true, false, if◌then◌else◌, List, [], ◌∷◌, ◌++◌, length, map, take, min, ◌-◌, refl, sym, ap, ap₂, ◌∙◌}
 use Rattle.std.proofs.Math.IntN.{ℤ}
-use Rattle.cayley.specs.Problems.{Version, version1, version2, Point, Problem, with_rank, is_start_corner, numbered, ranks_in, numbered_supports, ranked_supports, first_points, file_points}
+use Rattle.cayley.specs.Problems.{Version, version1, version2, Point, with_rank, is_start_corner, numbered, ranks_in, numbered_supports, ranked_supports, first_points, file_points}
 use Rattle.cayley.specs.Problems.Version.{version1, version2}
 use Rattle.cayley.specs.Files.{FilePoint, File, resting, plain_problem}
 use Rattle.cayley.specs.Stored.{held}
@@ -64,7 +64,7 @@ bare_first [] supports = refl
 bare_first (f ∷ files) [] = refl
 bare_first (f ∷ files) (s ∷ supports) = ap₂ (λ (y : List Point) (ys : List (List Point)). y ∷ ys) (map_take (with_rank 0) f s) (bare_first files supports)
 
-taken : (s : List FilePoint) (ys : List Point) → take (length s) (map resting s ++ ys) ≡ map resting s
+pub taken : (s : List FilePoint) (ys : List Point) → take (length s) (map resting s ++ ys) ≡ map resting s
 taken [] [] = refl
 taken [] (y ∷ ys) = refl
 taken (x ∷ s) ys = ap (λ (zs : List Point). resting x ∷ zs) (taken s ys)

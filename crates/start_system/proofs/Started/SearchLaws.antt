@@ -1,11 +1,11 @@
 -- the laws of paths and of started problems
-use Rattle.std.proofs.Common.{◌≡◌, ℕ, zero, suc, ◌+◌, ◌-◌, ◌<◌, ◌≤◌, List, [], ◌∷◌, Option, Some, length, map, take, length-take, arith, refl, sym, ap, subst, ◌∙◌, inl, inr, ◌≤ℤ◌}
+use Rattle.std.proofs.Common.{◌≡◌, ℕ, zero, suc, ◌+◌, ◌-◌, ◌<◌, ◌≤◌, List, [], ◌∷◌, Some, length, map, take, length-take, arith, refl, sym, ap, subst, ◌∙◌, inl, inr, ◌≤ℤ◌}
 use Rattle.std.proofs.Math.IntN.{ℤ, pos}
 use Rattle.int_vectors.specs.Vectors.{Each}
-use Rattle.cayley.specs.Problems.{Point, Problem, EachSupport, HasCorners, IsStill, point_at, first_points, ranked_supports}
+use Rattle.cayley.specs.Problems.{Point, Problem, EachSupport, HasCorners, IsStill, point_at, first_points}
 use Rattle.cayley.specs.Files.{FilePoint, File}
 use Rattle.cayley.specs.Stored.{held}
-use Rattle.cayley.specs.Paths.{path, path_supports, starts_of}
+use Rattle.cayley.specs.Paths.{path, starts_of}
 use Rattle.cayley.specs.Valid.{HasProblemShape}
 use Rattle.cayley.proofs.Algebra.Kernel.{length-map}
 use Rattle.cayley.proofs.Lists.Each.{each_weaker}

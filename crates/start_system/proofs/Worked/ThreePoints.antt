@@ -1,5 +1,5 @@
 -- three points on a line: a valid file, whose path is started, and searched from the cell of its two corners
-use Rattle.std.proofs.Common.{◌≡◌, ◌≢◌, ◌↔◌, ℕ, zero, suc, ◌<◌, List, [], ◌∷◌, None, slice_index_or, map, arith, refl, ap}
+use Rattle.std.proofs.Common.{◌≡◌, zero, suc, List, [], ◌∷◌, None, map, arith, refl, ap}
 use Rattle.std.proofs.lemmas.Int.{ints}
 use Rattle.std.proofs.Math.IntN.{ℤ, pos, negsuc}
 use Rattle.int_vectors.specs.Vectors.{at}
@@ -34,7 +34,6 @@ apart (suc (suc j)) k l m e = omega arith
 
 valid : IsValidFile three_points
 valid = record {
-  version = refl;
   shape = record {
     dimension = (omega arith, omega arith);
     supports = refl;
