@@ -50,7 +50,6 @@ supports-length seed m (s ∷ ss) = ap suc (supports-length seed (m + length s) 
 
 pub lift_valid : (n : ℕ) (ss : List (List (List ℤ))) (seed : ℕ) → 1 ≤ n → n ≤ 16 → length ss ≡ n → Each ss (IsSupport n) → IsValidFile (lift_file n ss seed)
 lift_valid n ss seed least greatest count each = record {
-  version = refl;
   shape = record {
     dimension = (least, greatest);
     supports = supports-length seed 0 ss ∙ count;

@@ -81,7 +81,6 @@ scatter_valid n m side seed one most some count limit room =
     let fresh = λ (i : ℕ). scattered_fresh seed side n (i * (m * (n + 1)) + 1) m [] (omega arith) (omega arith) in
     let each = λ (P : List FilePoint → Type 0) (f : (i : ℕ) → P (scattered_support seed side n m i)). each_range P (scattered_support seed side n m) 0 n (λ i l u. f i) in
     record {
-      version = refl;
       shape = record {
         dimension = (one, most);
         supports = length-map-range_with_len (scattered_support seed side n m) 0 n;

@@ -7,7 +7,7 @@ ghost use Rattle.family_gen.specs.Generator.{number};
 ghost use Rattle.family_gen.specs.Lifts.{lift_file, lifted, lifted_supports};
 
 use crate::generator::Generator;
-use cayley::{FilePoint, LiftFile};
+use cayley::{FilePoint, LiftFile, Version};
 use int_vectors::IntVec;
 use std::alloc::Global;
 use wide_int::OutOfMemory;
@@ -77,5 +77,5 @@ pub fn lift(
 {
     let mut generator = Generator { last: seed };
     let lifted = lifted_all(alloc, supports, &mut generator)?;
-    Ok(LiftFile::from_parts(dim, lifted, None))
+    Ok(LiftFile::from_parts(Version::First, dim, lifted, None))
 }

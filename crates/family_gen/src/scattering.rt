@@ -8,7 +8,7 @@ ghost use Rattle.family_gen.specs.Scatter.{is_among, next, next_free, scatter_fi
 ghost use Rattle.family_gen.specs.Seen.{coordinates_of};
 
 use crate::generator::Generator;
-use cayley::{FilePoint, LiftFile};
+use cayley::{FilePoint, LiftFile, Version};
 use int_vectors::IntVec;
 use std::alloc::Global;
 use std::collections::BTreeSet;
@@ -246,5 +246,5 @@ pub fn scatter(
             return Err(OutOfMemory);
         }
     }
-    Ok(LiftFile::from_parts(n, supports, None))
+    Ok(LiftFile::from_parts(Version::First, n, supports, None))
 }
