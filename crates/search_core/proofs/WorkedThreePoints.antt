@@ -1,13 +1,16 @@
 -- the premises of the core's law are met: two searchers search the path of three points to its end
 use Rattle.std.proofs.Common.{◌≡◌, ◌≢◌, ℕ, ◌<◌, ◌≤◌, List, [], ◌∷◌, length, lit<, lit≤, ap, arith, refl, sym, subst, inl, inr}
 use Rattle.std.proofs.Math.IntN.{pos, negsuc}
+use Rattle.cayley.specs.Times.{Time, IsSameTime, time_zero}
 use Rattle.cayley.specs.Cells.{Cell}
 use Rattle.cayley.specs.Lives.Begin.{at_time}
-use Rattle.cayley.specs.Mixed.{IsMixedCell}
+use Rattle.cayley.specs.Mixed.{IsAlive, IsMixedCell}
 use Rattle.cayley.specs.Shares.{Branch, IsTrueBranch, GivesShares}
 use Rattle.cayley.specs.Begins.{begin_of}
 use Rattle.cayley.specs.declared.found.Begin.{Begin as StoredBegin}
 use Rattle.cayley.specs.declared.found.Begin.TheVariants.{Start, At}
+use Rattle.cayley.proofs.Life.Decisions.{lined_cell}
+use Rattle.cayley.proofs.Order.Lined.{begins_same}
 use Rattle.cayley.proofs.Searching.Steps.{shares_exist}
 use Rattle.cayley.proofs.Searching.FilePoints.{dec_mixed}
 use Rattle.cayley.proofs.Worked.ThreePoints.{three, three_well, start, start_early, left, right, left_mixed, right_mixed, left_mixed_is_mixed, right_mixed_is_mixed, left_true, right_true, left_mixed_true, right_mixed_true, start_kids, left_kids, right_kids}
@@ -44,8 +47,15 @@ stored : (cell : Cell) (begin : StoredBegin) (entry over : _) → begin_of begin
     → IsTrueBranch three (record { cell = cell; begin = at_time (entry ∷ []) over }) → IsTrueBranch three (record { cell = cell; begin = begin_of begin })
 stored cell begin entry over e is = subst (λ x. IsTrueBranch three (record { cell = cell; begin = x })) (sym e) is
 
+-- the time 0, which the code writes without an entry
+zero_is : (t : Time) → t.entries ≡ pos 0 ∷ [] → IsSameTime t time_zero
+zero_is t e = rw e (refl, tt)
+
+at_zero : (cell : Cell) → IsTrueBranch three (record { cell = cell; begin = at_time (pos 0 ∷ []) (pos 1) }) → IsTrueBranch three (record { cell = cell; begin = at_time [] (pos 1) })
+at_zero cell h = (time_zero, refl, refl, begins_same (IsAlive three cell) (lined_cell three cell three_well) h.0 time_zero (zero_is h.0 h.1) h.3)
+
 -- the code's values for the times -2 and 0
-module _ (early late : StoredBegin) (early_is : begin_of early ≡ at_time (negsuc 1 ∷ []) (pos 1)) (late_is : begin_of late ≡ at_time (pos 0 ∷ []) (pos 1)) where
+module _ (early late : StoredBegin) (early_is : begin_of early ≡ at_time (negsuc 1 ∷ []) (pos 1)) (late_is : begin_of late ≡ at_time [] (pos 1)) where
   abbrev events : List Event
   events =
       Claim 1 ∷ Expand 1 (Children (TwoChildren (branch left early) (branch right early))) ∷ Offer 1 ∷ Offer 1
@@ -59,11 +69,14 @@ module _ (early late : StoredBegin) (early_is : begin_of early ≡ at_time (negs
   right_is : IsTrueBranch three (record { cell = right; begin = begin_of early })
   right_is = stored right early (negsuc 1) (pos 1) early_is right_true
 
+  at_late : (cell : Cell) → IsTrueBranch three (record { cell = cell; begin = at_time (pos 0 ∷ []) (pos 1) }) → IsTrueBranch three (record { cell = cell; begin = begin_of late })
+  at_late cell h = subst (λ x. IsTrueBranch three (record { cell = cell; begin = x })) (sym late_is) (at_zero cell h)
+
   left_mixed_is : IsTrueBranch three (record { cell = left_mixed; begin = begin_of late })
-  left_mixed_is = stored left_mixed late (pos 0) (pos 1) late_is left_mixed_true
+  left_mixed_is = at_late left_mixed left_mixed_true
 
   right_mixed_is : IsTrueBranch three (record { cell = right_mixed; begin = begin_of late })
-  right_mixed_is = stored right_mixed late (pos 0) (pos 1) late_is right_mixed_true
+  right_mixed_is = at_late right_mixed right_mixed_true
 
   run : (end : State) × IsTrueRun three (start_state 2 first) events end × IsIdle end × (all_outs end ≡ right_mixed ∷ left_mixed ∷ [])
   run = (
@@ -156,8 +169,8 @@ module _ (early late : StoredBegin) (early_is : begin_of early ≡ at_time (negs
 -- a true run to a state with nothing open, and shares of its branches
 pub three_run : (events : List Event) × (end : State) × IsTrueRun three (start_state 2 first) events end × IsIdle end × (all_outs end ≡ right_mixed ∷ left_mixed ∷ [])
 three_run =
-    let early = At (record { num = negsuc 1; den = pos 1 }) in
-    let late = At (record { num = pos 0; den = pos 1 }) in
+    let early = At (record { parts = record { rank = 0; num = negsuc 1 } ∷ []; den = pos 1 }) in
+    let late = At (record { parts = []; den = pos 1 }) in
     let r = run early late refl refl in
     (events early late refl refl, r.0, r.1, r.2, r.3)
 

@@ -4,13 +4,14 @@ ghost use Rattle.search_core.specs.States.{IsSearcher};
 use crate::{Children2, Core, CoreBranch, CoreOutcome, Event, Hand, StepFault};
 use cayley::{Begin, Cell};
 use std::alloc::Global;
+use lex_height::Lex;
 use wide_int::Frac;
 
 type Pairs = [(u32, u32); 2];
 
 // The beginning at a time of this numerator and denominator.
 fn at(num: i128, den: i128) -> Option<Begin> {
-    Some(Begin::At(Frac::lowest(num, den)?))
+    Some(Begin::At(Lex::of(&Frac::lowest(num, den)?)))
 }
 
 fn branch(alloc: Global, pairs: Pairs, begin: Begin) -> Option<CoreBranch> {
