@@ -1,14 +1,15 @@
 -- the leaders among the first lines, one line after the other
-use Rattle.std.proofs.Common.{◌≡◌, ◌≢◌, ◌⊎◌, ℕ, ◌+◌, ◌<◌, ◌*ℤ◌, List, Ordering, Less, Equal, Greater, zero, suc, ap, refl, sym, subst, arith, inl, inr}
+use Rattle.std.proofs.Common.{◌≡◌, ◌≢◌, ◌⊎◌, ℕ, ◌+◌, ◌<◌, List, Ordering, Less, Equal, Greater, zero, suc, ap, refl, sym, subst, arith, inl, inr}
 use Rattle.std.specs.Ordering.{MatchOrdering}
 use Rattle.std.proofs.Math.Nat.{eq-or-lt_of_le}
-use Rattle.std.proofs.lemmas.Int.{ints}
-use Rattle.wide_int.proofs.Order.{le_from_not_lt, ratio_lt_trans, ratio_lt_le_trans}
+use Rattle.lex_height.proofs.Comparing.{less_less, less_not_back, less_not_same, same_back}
 use Rattle.crossing.specs.declared.line.WallLine.{WallLine}
 use Rattle.crossing.specs.declared.leaders.Way.{Way}
 use Rattle.crossing.specs.declared.leaders.Leaders.{Leaders}
 use Rattle.crossing.specs.declared.leaders.Leaders.TheVariants as led
-use Rattle.crossing.specs.Leading.{steep, Goes, IsBefore, IsEven, IsLed, nth}
+use Rattle.crossing.specs.Lines.{constant}
+use Rattle.crossing.specs.Leading.{steep, start, Goes, IsBefore, IsEven, IsLed, nth}
+use Rattle.crossing.proofs.Zeros.{less_level}
 
 -- a place below n + 1
 pub below_next : (k n : ℕ) → k < n + 1 → (k < n) ⊎ (k ≡ n)
@@ -22,17 +23,16 @@ same_or_not (suc k) (suc n) = elim (same_or_not k n) [ inl e ↦ inl (ap suc e) 
 
 module _ (way : Way) where
   before_trans : (x y z : WallLine) → Goes way x → Goes way y → Goes way z → IsBefore way x y → IsBefore way y z → IsBefore way x z
-  before_trans x y z = ratio_lt_trans x.alpha (steep way x) y.alpha (steep way y) z.alpha (steep way z)
+  before_trans x y z = less_less (start x) (steep way x) (start y) (steep way y) (start z) (steep way z)
 
   -- before what isn't later than z
   before_level : (x y z : WallLine) → Goes way x → Goes way y → Goes way z → IsBefore way x y → ¬ (IsBefore way z y) → IsBefore way x z
-  before_level x y z gx gy gz h k =
-      ratio_lt_le_trans x.alpha (steep way x) y.alpha (steep way y) z.alpha (steep way z) gx gy gz h (le_from_not_lt (y.alpha *ℤ steep way z) (z.alpha *ℤ steep way y) k)
+  before_level x y z = less_level (start x) (steep way x) (constant y) (steep way y) (constant z) (steep way z)
 
-  not_after : (o : Ordering) (x y : WallLine) → o ≢ Greater → MatchOrdering o (IsBefore way x y) (IsEven way x y) (IsBefore way y x) → ¬ (IsBefore way y x)
-  not_after Less x y n h k = omega (arith, ints, h, k)
-  not_after Equal x y n h k = omega (arith, ints, h, k)
-  not_after Greater x y n h k = n refl
+  not_after : (o : Ordering) (x y : WallLine) → Goes way x → Goes way y → o ≢ Greater → MatchOrdering o (IsBefore way x y) (IsEven way x y) (IsBefore way y x) → ¬ (IsBefore way y x)
+  not_after Less x y gx gy n h k = less_not_back (start x) (steep way x) (start y) (steep way y) gx gy h k
+  not_after Equal x y gx gy n h k = less_not_same (start y) (steep way y) (start x) (steep way x) k (same_back (start x) (steep way x) (start y) (steep way y) h)
+  not_after Greater x y gx gy n h k = n refl
 
   module _ (lines : List WallLine) (n : ℕ) where
     -- the next line leads alone
@@ -72,7 +72,7 @@ module _ (way : Way) where
       h.5,
       λ k lt gk. elim (below_next k n lt) [
         | inl p ↦ h.6 k p gk
-        | inr e ↦ subst (λ j. ¬ (IsBefore way (nth lines j) (nth lines a))) (sym e) (not_after o (nth lines a) (nth lines n) ne m)
+        | inr e ↦ subst (λ j. ¬ (IsBefore way (nth lines j) (nth lines a))) (sym e) (not_after o (nth lines a) (nth lines n) h.2 (subst (λ j. Goes way (nth lines j)) e gk) ne m)
       ],
     )
 

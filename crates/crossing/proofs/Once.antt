@@ -1,16 +1,25 @@
 -- places and times are determined
-use Rattle.std.proofs.Common.{◌≡◌, ℕ, ◌+◌, ◌-◌, ◌<◌, ◌*ℤ◌, ◌≤ℤ◌, List, length, subst, arith}
-use Rattle.std.proofs.lemmas.Int.{ints}
-use Rattle.wide_int.specs.Fractions.{Fraction, IsLowest}
-use Rattle.wide_int.proofs.Lowest.{one_form_is}
+use Rattle.std.proofs.Common.{◌≡◌, ℕ, ◌+◌, ◌-◌, ◌<◌, List, length, sym, subst, arith}
+use Rattle.lex_height.specs.Entries.{entry, entries, at_rank}
+use Rattle.lex_height.specs.Values as lex
+use Rattle.lex_height.proofs.Ranks.{entries_is}
+use Rattle.lex_height.proofs.Comparing.{less_as}
+use Rattle.lex_height.proofs.Forms.{ordered_is}
 use Rattle.crossing.specs.declared.line.WallLine.{WallLine}
+use Rattle.crossing.specs.Lines.{IsEarlier}
 use Rattle.crossing.specs.Places.{HasAt, IsNowhere, IsFirst, IsOnly, AreFirstTwo}
 use Rattle.crossing.specs.Leading.{nth}
 use Rattle.crossing.proofs.Leading.{same_by_order}
+use Rattle.crossing.proofs.Lists.{less_earlier}
 
--- the time t is no later than u and u no later than t
-pub time_once : (t u : Fraction) → IsLowest t → IsLowest u → (t.num *ℤ u.den) ≤ℤ (u.num *ℤ t.den) → (u.num *ℤ t.den) ≤ℤ (t.num *ℤ u.den) → t ≡ u
-time_once t u lt lu h k = one_form_is t u lt lu (omega (arith, ints, h, k))
+-- neither of two times in lowest terms is before the other
+pub time_once : (t u : lex.Value) → lex.IsLowest t → lex.IsLowest u → ¬ (IsEarlier (entries t.parts) t.den (entries u.parts) u.den) → ¬ (IsEarlier (entries u.parts) u.den (entries t.parts) t.den) → t ≡ u
+time_once t u lt lu h k = ordered_is.total t u lt lu (λ l. h (seen t u lt lu l)) (λ l. k (seen u t lu lt l))
+  where
+    seen : (t u : lex.Value) → lex.IsLowest t → lex.IsLowest u → lex.IsBelow t u → IsEarlier (entries t.parts) t.den (entries u.parts) u.den
+    seen t u lt lu l =
+        less_earlier (entries t.parts) t.den (entries u.parts) u.den
+        (less_as (entry t.parts) (at_rank (entries t.parts)) (entry u.parts) (at_rank (entries u.parts)) t.den u.den (λ k. sym (entries_is t.parts lt.0.1 k)) (λ k. sym (entries_is u.parts lu.0.1 k)) l)
 
 module _ (P : WallLine → Type 0) (lines : List WallLine) where
   pub has_at : (k : ℕ) → k < length lines → P (nth lines k) → HasAt P lines (k + 1)

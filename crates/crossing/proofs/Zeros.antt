@@ -1,84 +1,133 @@
--- values and zeros of lines, as fractions
-use Rattle.std.proofs.Common.{◌≡◌, ℤ, pos, neg_ℤ, ◌+ℤ◌, ◌-ℤ◌, ◌*ℤ◌, ◌<ℤ◌, ◌≤ℤ◌, arith}
+-- values and zeros of lines, entry by entry
+use Rattle.std.proofs.Common.{◌≡◌, ◌⊎◌, inl, inr, ℕ, ◌∙◌, List, ℤ, pos, neg_ℤ, ◌+ℤ◌, ◌-ℤ◌, ◌*ℤ◌, ◌<ℤ◌, sym, ap, arith}
 use Rattle.std.proofs.lemmas.Int.{ints}
-use Rattle.wide_int.specs.Fractions.{Fraction, IsLowest}
-use Rattle.wide_int.proofs.Ring.{neg_mul_ℤ, mul_neg_ℤ}
-use Rattle.wide_int.proofs.Order.{le_from_not_lt, ratio_le_trans, ratio_lt_le_trans}
 use Rattle.std.proofs.Math.IntN.{*ℤ_comm}
+use Rattle.wide_int.proofs.Ring.{as_D, Ds, same_D, zero_mul_ℤ}
+use Rattle.wide_int.proofs.Order.{lt_cancel, mul_cancel, mul_pos_ℤ}
+use Rattle.int_vectors.specs.Vectors.{IsZero, IsPositive, at}
+use Rattle.lex_height.specs.Order.{IsLess, IsSame}
+use Rattle.lex_height.proofs.Comparing.{less_less, less_same, same_less, same_same, same_back, not_below_itself, less_turned, less_as}
 use Rattle.crossing.specs.declared.line.WallLine.{WallLine}
 use Rattle.crossing.specs.declared.leaders.Way.{Way}
 use Rattle.crossing.specs.declared.leaders.Way.TheVariants.{Falling, Rising}
-use Rattle.crossing.specs.Lines.{value_at, IsFlat, IsZeroAt}
-use Rattle.crossing.specs.Leading.{steep, Goes, IsBefore, IsEven}
-
--- ---- lines that are zero at all times
-pub flat_from : (line : WallLine) → line.alpha ≡ pos 0 → line.beta ≡ pos 0 → IsFlat line
-flat_from line e f p q h = step line.alpha line.beta p q e f
-  where
-    step : (a b p q : ℤ) → a ≡ pos 0 → b ≡ pos 0 → a *ℤ q +ℤ b *ℤ p ≡ pos 0
-    step a b p q e f = rw (e, f) (omega (arith, ints))
-
-pub flat_parts : (line : WallLine) → IsFlat line → (line.alpha ≡ pos 0) × (line.beta ≡ pos 0)
-flat_parts line h =
-    let a = h (pos 0) (pos 1) (omega (arith, ints)) in
-    let b = h (pos 1) (pos 1) (omega (arith, ints)) in
-    (omega (arith, ints, a), omega (arith, ints, a, b))
+use Rattle.crossing.specs.Lines.{constant, value}
+use Rattle.crossing.specs.Leading.{steep, start, Goes, IsBefore, IsEven}
+use Rattle.crossing.proofs.Lists.{at-sum, zero_at, zero_from, positive_at, positive_from, either}
 
 -- ---- lines of one way
 -- a time as it runs on this way
-abbrev pub turn : Way → ℤ → ℤ
-turn Falling p = p
-turn Rising p = neg_ℤ p
+abbrev pub turn : Way → (ℕ → ℤ) → ℕ → ℤ
+turn Falling w = w
+turn Rising w = λ k. neg_ℤ (w k)
 
-pub value_is : (way : Way) (line : WallLine) (p q : ℤ) → value_at line p q ≡ line.alpha *ℤ q -ℤ turn way p *ℤ steep way line
-value_is Falling line p q = let m = mul_neg_ℤ p line.beta in let c = *ℤ_comm line.beta p in omega (arith, ints, m, c)
-value_is Rising line p q = let m = neg_mul_ℤ p line.beta in let c = *ℤ_comm line.beta p in omega (arith, ints, m, c)
+falling_ring : (a b p q : ℤ) → q *ℤ a +ℤ b *ℤ p ≡ a *ℤ q -ℤ p *ℤ neg_ℤ b
+falling_ring a b p q = rw (as_D a, as_D b, as_D p, as_D q) (simp Ds (same_D _ _ _ _ (omega arith)))
 
--- zero at p / q: the time is alpha over the steepness
-pub zero_ratio : (way : Way) (line : WallLine) (p q : ℤ) → value_at line p q ≡ pos 0 → turn way p *ℤ steep way line ≡ line.alpha *ℤ q
-zero_ratio way line p q e = let v = value_is way line p q in omega (arith, ints, e, v)
+rising_ring : (a b p q : ℤ) → q *ℤ a +ℤ b *ℤ p ≡ a *ℤ q -ℤ neg_ℤ p *ℤ b
+rising_ring a b p q = rw (as_D a, as_D b, as_D p, as_D q) (simp Ds (same_D _ _ _ _ (omega arith)))
 
-pub ratio_zero : (way : Way) (line : WallLine) (p q : ℤ) → turn way p *ℤ steep way line ≡ line.alpha *ℤ q → value_at line p q ≡ pos 0
-ratio_zero way line p q e = let v = value_is way line p q in omega (arith, ints, e, v)
+pub value_at : (line : WallLine) (t : List ℤ) (q : ℤ) (k : ℕ) → at (value line t q) k ≡ q *ℤ start line k +ℤ line.beta *ℤ at t k
+value_at line t q k = at-sum q line.beta (constant line) t k
 
--- positive at p / q: the time is less than alpha over the steepness
-pub positive_ratio : (way : Way) (line : WallLine) (p q : ℤ) → pos 0 <ℤ value_at line p q → (turn way p *ℤ steep way line) <ℤ (line.alpha *ℤ q)
-positive_ratio way line p q h = let v = value_is way line p q in omega (arith, ints, h, v)
+pub value_is : (way : Way) (line : WallLine) (t : List ℤ) (q : ℤ) (k : ℕ) → at (value line t q) k ≡ start line k *ℤ q -ℤ turn way (at t) k *ℤ steep way line
+value_is Falling line t q k = value_at line t q k ∙ falling_ring (start line k) line.beta (at t k) q
+value_is Rising line t q k = value_at line t q k ∙ rising_ring (start line k) line.beta (at t k) q
 
-pub ratio_positive : (way : Way) (line : WallLine) (p q : ℤ) → (turn way p *ℤ steep way line) <ℤ (line.alpha *ℤ q) → pos 0 <ℤ value_at line p q
-ratio_positive way line p q h = let v = value_is way line p q in omega (arith, ints, h, v)
+module _ (way : Way) (line : WallLine) (t : List ℤ) (q : ℤ) where
+  -- zero at t / q: the time is the start over the steepness
+  pub zero_ratio : IsZero (value line t q) → IsSame (turn way (at t)) q (start line) (steep way line)
+  zero_ratio z k = let e = zero_at (value line t q) z k in let v = value_is way line t q k in omega (arith, ints, e, v)
+
+  pub ratio_zero : IsSame (turn way (at t)) q (start line) (steep way line) → IsZero (value line t q)
+  ratio_zero h = zero_from (value line t q) (λ k. let e = h k in let v = value_is way line t q k in omega (arith, ints, e, v))
+
+  -- positive at t / q: the time is less than the start over the steepness
+  pub positive_ratio : IsPositive (value line t q) → IsLess (turn way (at t)) q (start line) (steep way line)
+  positive_ratio h =
+      let p = positive_at (value line t q) h in (
+        p.0,
+        (let a = p.1 in let v = value_is way line t q p.0 in omega (arith, ints, a, v)),
+        λ k lt. let a = p.2 k lt in let v = value_is way line t q k in omega (arith, ints, a, v),
+      )
+
+  pub ratio_positive : IsLess (turn way (at t)) q (start line) (steep way line) → IsPositive (value line t q)
+  ratio_positive p = positive_from (value line t q) (
+    p.0,
+    (let a = p.1 in let v = value_is way line t q p.0 in omega (arith, ints, a, v)),
+    λ k lt. let a = p.2 k lt in let v = value_is way line t q k in omega (arith, ints, a, v),
+  )
+
+-- less than what isn't after z
+pub less_level : (w : ℕ → ℤ) (q : ℤ) (x : List ℤ) (p : ℤ) (z : List ℤ) (r : ℤ) → pos 0 <ℤ q → pos 0 <ℤ p → pos 0 <ℤ r → IsLess w q (at x) p → ¬ (IsLess (at z) r (at x) p) → IsLess w q (at z) r
+less_level w q x p z r pq pp pr h n = elim (either x p z r) [
+  | inl l ↦ less_less w q (at x) p (at z) r pq pp pr h l
+  | inr s ↦ elim s [
+    | inl e ↦ less_same w q (at x) p (at z) r pq pp pr h e
+    | inr l ↦ absurd (n l)
+  ]
+]
 
 module _ (way : Way) (x y : WallLine) (gx : Goes way x) (gy : Goes way y) where
-  not_before : ¬ (IsBefore way y x) → (x.alpha *ℤ steep way y) ≤ℤ (y.alpha *ℤ steep way x)
-  not_before n = le_from_not_lt (x.alpha *ℤ steep way y) (y.alpha *ℤ steep way x) n
-
-  -- a zero of x isn't after one of y
-  pub zero_le : ¬ (IsBefore way y x) → (t : Fraction) → IsLowest t → IsZeroAt x t → (p q : ℤ) → pos 0 <ℤ q → value_at y p q ≡ pos 0 → (turn way t.num *ℤ q) ≤ℤ (turn way p *ℤ t.den)
-  zero_le n t l z p q pq e =
-      let a = zero_ratio way x t.num t.den z in
-      let b = zero_ratio way y p q e in
-      let f : (turn way t.num *ℤ steep way y) ≤ℤ (y.alpha *ℤ t.den) =
-      ratio_le_trans (turn way t.num) t.den x.alpha (steep way x) y.alpha (steep way y) l.0 gx gy (omega (arith, ints, a)) (not_before n) in
-      ratio_le_trans (turn way t.num) t.den y.alpha (steep way y) (turn way p) q l.0 gy pq f (omega (arith, ints, b))
+  -- a zero of y isn't before one of x
+  pub zero_le : ¬ (IsBefore way y x) → (t : List ℤ) (q : ℤ) → pos 0 <ℤ q → IsZero (value x t q) → (u : List ℤ) (p : ℤ) → pos 0 <ℤ p → IsZero (value y u p) → ¬ (IsLess (turn way (at u)) p (turn way (at t)) q)
+  zero_le n t q pq zx u p pp zy h =
+      let a = zero_ratio way x t q zx in
+      let b = zero_ratio way y u p zy in
+      let c = less_same (turn way (at u)) p (turn way (at t)) q (start x) (steep way x) pp pq gx h a in
+      n (same_less (start y) (steep way y) (turn way (at u)) p (start x) (steep way x) gy pp gx (same_back (turn way (at u)) p (start y) (steep way y) b) c)
 
   -- two zeros at one time
-  pub apart : IsBefore way x y → (t : Fraction) → IsLowest t → IsZeroAt x t → IsZeroAt y t → ⊥
-  apart h t l z w =
-      let a = zero_ratio way x t.num t.den z in
-      let b = zero_ratio way y t.num t.den w in
-      let f = ratio_lt_le_trans x.alpha (steep way x) y.alpha (steep way y) (turn way t.num) t.den gx gy l.0 h (omega (arith, ints, b)) in
-      omega (arith, ints, a, f)
+  pub apart : IsBefore way x y → (t : List ℤ) (q : ℤ) → pos 0 <ℤ q → IsZero (value x t q) → IsZero (value y t q) → ⊥
+  apart h t q pq zx zy =
+      let a = zero_ratio way x t q zx in
+      let b = zero_ratio way y t q zy in
+      let c = same_less (turn way (at t)) q (start x) (steep way x) (start y) (steep way y) pq gx gy a h in
+      not_below_itself (turn way (at t)) q (less_same (turn way (at t)) q (start y) (steep way y) (turn way (at t)) q pq gy pq c (same_back (turn way (at t)) q (start y) (steep way y) b))
 
-  pub even_zero : IsEven way x y → (t : Fraction) → IsLowest t → IsZeroAt x t → IsZeroAt y t
-  even_zero e t l z =
-      let a = zero_ratio way x t.num t.den z in
-      let f : (turn way t.num *ℤ steep way y) ≤ℤ (y.alpha *ℤ t.den) =
-      ratio_le_trans (turn way t.num) t.den x.alpha (steep way x) y.alpha (steep way y) l.0 gx gy (omega (arith, ints, a)) (omega (arith, ints, e)) in
-      let g : (y.alpha *ℤ t.den) ≤ℤ (turn way t.num *ℤ steep way y) =
-      ratio_le_trans y.alpha (steep way y) x.alpha (steep way x) (turn way t.num) t.den gy gx l.0 (omega (arith, ints, e)) (omega (arith, ints, a)) in
-      ratio_zero way y t.num t.den (omega (arith, ints, f, g))
+  pub even_zero : IsEven way x y → (t : List ℤ) (q : ℤ) → pos 0 <ℤ q → IsZero (value x t q) → IsZero (value y t q)
+  even_zero e t q pq zx = ratio_zero way y t q (same_same (turn way (at t)) q (start x) (steep way x) (start y) (steep way y) pq gx gy (zero_ratio way x t q zx) e)
 
   -- before x's zero y is positive too
-  pub positive_too : ¬ (IsBefore way y x) → (p q : ℤ) → pos 0 <ℤ q → pos 0 <ℤ value_at x p q → pos 0 <ℤ value_at y p q
-  positive_too n p q pq h =
-      ratio_positive way y p q (ratio_lt_le_trans (turn way p) q x.alpha (steep way x) y.alpha (steep way y) pq gx gy (positive_ratio way x p q h) (not_before n))
+  pub positive_too : ¬ (IsBefore way y x) → (t : List ℤ) (q : ℤ) → pos 0 <ℤ q → IsPositive (value x t q) → IsPositive (value y t q)
+  positive_too n t q pq h = ratio_positive way y t q (less_level (turn way (at t)) q (constant x) (steep way x) (constant y) (steep way y) pq gx gy (positive_ratio way x t q h) n)
+
+-- ---- the order of times as it runs on this way
+double_neg : (x : ℤ) → neg_ℤ (neg_ℤ x) ≡ x
+double_neg x = omega (arith, ints)
+
+pub turned_less : (w : ℕ → ℤ) (p : ℤ) (u : ℕ → ℤ) (q : ℤ) → IsLess (turn Rising w) p (turn Rising u) q → IsLess u q w p
+turned_less w p u q h = less_as (λ k. neg_ℤ (neg_ℤ (u k))) u (λ k. neg_ℤ (neg_ℤ (w k))) w q p (λ k. double_neg (u k)) (λ k. double_neg (w k)) (less_turned (turn Rising w) p (turn Rising u) q h)
+
+pub less_turn : (w : ℕ → ℤ) (p : ℤ) (u : ℕ → ℤ) (q : ℤ) → IsLess u q w p → IsLess (turn Rising w) p (turn Rising u) q
+less_turn w p u q h = less_turned u q w p h
+
+-- positive at t / q, zero at u / p
+pub zero_later : (way : Way) (y : WallLine) → Goes way y → (t : List ℤ) (q : ℤ) → pos 0 <ℤ q → IsPositive (value y t q) → (u : List ℤ) (p : ℤ) → pos 0 <ℤ p → IsZero (value y u p) → IsLess (turn way (at t)) q (turn way (at u)) p
+zero_later way y g t q pq h u p pp z =
+    less_same (turn way (at t)) q (start y) (steep way y) (turn way (at u)) p pq g pp (positive_ratio way y t q h) (same_back (turn way (at u)) p (start y) (steep way y) (zero_ratio way y u p z))
+
+-- ---- lines that are level
+module _ (line : WallLine) (level : line.beta ≡ pos 0) (t : List ℤ) (q : ℤ) (pq : pos 0 <ℤ q) where
+  level_at : (k : ℕ) → at (value line t q) k ≡ start line k *ℤ q
+  level_at k = value_at line t q k ∙ without line.beta q (start line k) (at t k) level
+    where
+      without : (b q a p : ℤ) → b ≡ pos 0 → q *ℤ a +ℤ b *ℤ p ≡ a *ℤ q
+      without b q a p e = let f : b *ℤ p ≡ pos 0 = rw e (omega (arith, ints)) in let c = *ℤ_comm q a in omega (arith, ints, f, c)
+
+  pub level_start : IsPositive (value line t q) → IsPositive (constant line)
+  level_start h =
+      let p = positive_at (value line t q) h in
+      positive_from (constant line) (
+        p.0,
+        lt_cancel (pos 0) (start line p.0) q pq (let a = p.1 in let e = level_at p.0 in let z = zero_mul_ℤ q in omega (arith, ints, a, e, z)),
+        λ k lt. mul_cancel (start line k) (pos 0) q (λ e. omega (arith, ints, e, pq)) (sym (level_at k) ∙ p.2 k lt ∙ sym (zero_mul_ℤ q)),
+      )
+
+  pub level_value : IsPositive (constant line) → IsPositive (value line t q)
+  level_value h =
+      let p = positive_at (constant line) h in
+      positive_from (value line t q) (
+        p.0,
+        (let a = mul_pos_ℤ (start line p.0) q p.1 pq in let e = level_at p.0 in omega (arith, ints, a, e)),
+        λ k lt. level_at k ∙ ap (λ z. z *ℤ q) (p.2 k lt) ∙ zero_mul_ℤ q,
+      )

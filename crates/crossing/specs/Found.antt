@@ -1,9 +1,11 @@
 -- What the inner functions find; no public clause cites these.
-use Rattle.std.specs.Prelude.{◌≡◌, ℕ, ◌<◌, pos, neg_ℤ, ◌*ℤ◌, ◌<ℤ◌, ◌≤ℤ◌, List, length, Option, Some, None, MatchOption}
+use Rattle.std.specs.Prelude.{◌≡◌, ℕ, ◌<◌, pos, neg_ℤ, List, length, Option, Some, None, MatchOption}
+use Rattle.int_vectors.specs.Vectors.{IsPositive}
+use Rattle.lex_height.specs.Order.{IsLess}
 use Rattle.crossing.specs.declared.line.WallLine.{WallLine}
 use Rattle.crossing.specs.declared.leaders.Leaders.{Leaders}
-use Rattle.crossing.specs.Lines.{IsFlat}
-use Rattle.crossing.specs.Leading.{nth, first_of}
+use Rattle.crossing.specs.Lines.{constant, IsFlat}
+use Rattle.crossing.specs.Leading.{start, nth, first_of}
 
 -- the index of the first line that is zero at all times
 abbrev pub IsFirstFlat : List WallLine → Option ℕ → Type 0
@@ -13,11 +15,11 @@ IsFirstFlat lines found = MatchOption found
 
 -- zero or negative at all times, and level
 abbrev pub IsLow : WallLine → Type 0
-IsLow line = (line.beta ≡ pos 0) × (line.alpha ≤ℤ pos 0)
+IsLow line = (line.beta ≡ pos 0) × ¬ (IsPositive (constant line))
 
 -- the zero of a rising line comes before that of a falling line
 abbrev pub RisesFirst : WallLine → WallLine → Type 0
-RisesFirst rise fall = (neg_ℤ rise.alpha *ℤ neg_ℤ fall.beta) <ℤ (fall.alpha *ℤ rise.beta)
+RisesFirst rise fall = IsLess (λ k. neg_ℤ (start rise k)) rise.beta (start fall) (neg_ℤ fall.beta)
 
 abbrev pub IsOpenBetween : List WallLine → Option ℕ → Option ℕ → Type 0
 IsOpenBetween lines None fall = Unit {0}

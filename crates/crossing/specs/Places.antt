@@ -1,9 +1,9 @@
 -- Places in a list of lines, counted from 1.
-use Rattle.std.specs.Prelude.{◌≡◌, ℕ, ◌-◌, ◌<◌, ◌≤◌, pos, List, length, slice_index_or}
+use Rattle.std.specs.Prelude.{◌≡◌, ℕ, ◌-◌, ◌<◌, ◌≤◌, pos, List, [], length, slice_index_or}
 use Rattle.crossing.specs.declared.line.WallLine.{WallLine}
 
 abbrev pub origin : WallLine
-origin = record { support = 0; position = 0; alpha = pos 0; beta = pos 0 }
+origin = record { support = 0; position = 0; alpha = pos 0; beta = pos 0; fine = [] }
 
 -- the list has a line at this place, and it is P
 abbrev pub HasAt : (WallLine → Type 0) → List WallLine → ℕ → Type 0

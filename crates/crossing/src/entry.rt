@@ -1,12 +1,15 @@
 ghost use Rattle.std.specs.Prelude.{◌≡◌, ◌<◌, ◌≤◌, pos, All, HoldsAt, length, IsTrue, ◌↔◌, ℕ};
-ghost use Rattle.crossing.specs.Lines.{FitsLine};
+ghost use Rattle.int_vectors.specs.Vectors.{IsPositive};
+ghost use Rattle.crossing.specs.Lines.{FitsLine, constant};
 ghost use Rattle.crossing.specs.Leading.{Goes, IsLed};
 ghost use Rattle.crossing.specs.Entries.{IsEntry};
 ghost use Rattle.crossing.specs.Found.{IsLow, IsOpen, RisesFirst};
 
 use crate::leaders::{Leaders, Way, leaders_of};
-use crate::line::{WallLine, zero_of};
-use wide_int::{Frac, compare};
+use crate::line::{WallLine, zero_of, zero_parts};
+use lex_height::{Lex, compare_parts};
+use std::cmp::Ordering;
+use wide_int::compare;
 
 /// Where the time on which all lines are positive begins. Places count from 1.
 #[derive(Clone, Copy, Debug, PartialEq, Eq)]
@@ -15,12 +18,12 @@ pub enum Entry {
     Always,
     /// One line alone rises from zero at this time, after all others that rise.
     At {
-        time: Frac,
+        time: Lex,
         which: usize,
     },
     /// The first two of the lines that rise from zero at this time, after all others that rise.
     Tied {
-        time: Frac,
+        time: Lex,
         first: usize,
         second: usize,
     },
@@ -28,12 +31,28 @@ pub enum Entry {
     Dead,
 }
 
-// Whether a line is zero or negative at all times.
+// Whether a line is positive at time 0.
+fn is_positive(line: &WallLine) -> bool
+    requires { FitsLine line.now }
+    ensures { IsTrue result ↔ IsPositive (constant line.now) }
+{
+    match line.alpha.cmp(&0) {
+        Ordering::Less => false,
+        Ordering::Greater => true,
+        Ordering::Equal => match line.fine.as_slice() {
+            [] => false,
+            [part, ..] => part.num > 0,
+        },
+    }
+}
+
+// Whether some line is level and isn't positive.
 fn has_low(lines: &[WallLine]) -> bool
+    requires { All FitsLine lines.now }
     ensures { IsTrue result ↔ ((k : ℕ) × (k < length lines.now) × HoldsAt IsLow lines.now k) }
 {
     for line in lines {
-        if line.beta == 0 && line.alpha <= 0 {
+        if line.beta == 0 && !is_positive(line) {
             return true;
         }
     }
@@ -48,7 +67,16 @@ fn comes_before(rise: &WallLine, fall: &WallLine) -> bool
     requires falls { Goes Way.Falling fall.now }
     ensures { IsTrue result ↔ RisesFirst rise.now fall.now }
 {
-    compare(-rise.alpha, rise.beta, fall.alpha, -fall.beta).is_lt()
+    let ahead = match compare(-rise.alpha, rise.beta, fall.alpha, -fall.beta) {
+        Ordering::Equal => compare_parts(
+            zero_parts(rise).as_slice(),
+            rise.beta,
+            zero_parts(fall).as_slice(),
+            -fall.beta,
+        ),
+        order => order,
+    };
+    ahead.is_lt()
 }
 
 // Whether the last zero of a rising line comes before the first zero of a falling line.

@@ -5,7 +5,7 @@ ghost use Rattle.crossing.specs.Found.{IsFirstFlat};
 
 use crate::leaders::{Leaders, Way, leaders_of};
 use crate::line::{WallLine, zero_of};
-use wide_int::Frac;
+use lex_height::Lex;
 
 /// Where the time on which all lines are positive ends. Places count from 1.
 #[derive(Clone, Copy, Debug, PartialEq, Eq)]
@@ -14,12 +14,12 @@ pub enum Exit {
     Never,
     /// One line alone falls to zero at this time, before all others that fall.
     At {
-        time: Frac,
+        time: Lex,
         which: usize,
     },
     /// The first two of the lines that fall to zero at this time, before all others that fall.
     Tied {
-        time: Frac,
+        time: Lex,
         first: usize,
         second: usize,
     },
@@ -33,7 +33,7 @@ fn is_flat(line: &WallLine) -> bool
     requires { FitsLine line.now }
     ensures { IsTrue result ↔ IsFlat line.now }
 {
-    line.alpha == 0 && line.beta == 0
+    line.alpha == 0 && line.beta == 0 && line.fine.as_slice().is_empty()
 }
 
 // The index of the first line that is zero at all times.

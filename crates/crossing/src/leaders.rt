@@ -5,6 +5,7 @@ ghost use Rattle.crossing.specs.Lines.{FitsLine};
 ghost use Rattle.crossing.specs.Leading.{steep, Goes, IsBefore, IsEven, IsLed, first_of};
 
 use crate::line::WallLine;
+use lex_height::compare_parts;
 use std::cmp::Ordering;
 use wide_int::compare;
 
@@ -56,12 +57,14 @@ fn order(way: Way, first: &WallLine, second: &WallLine) -> Ordering
     requires second_goes { Goes way second.now }
     ensures { MatchOrdering result (IsBefore way first.now second.now) (IsEven way first.now second.now) (IsBefore way second.now first.now) }
 {
-    compare(
-        first.alpha,
-        steepness(way, first),
-        second.alpha,
-        steepness(way, second),
-    )
+    let steep = steepness(way, first);
+    let other = steepness(way, second);
+    match compare(first.alpha, steep, second.alpha, other) {
+        Ordering::Equal => {
+            compare_parts(first.fine.as_slice(), steep, second.fine.as_slice(), other)
+        }
+        order => order,
+    }
 }
 
 // The leaders after one more line of this way.
