@@ -125,7 +125,7 @@ walls_ordered m i (s ∷ supports) (x ∷ cell) =
     (λ c l h n j. all_lines m (IsEarlier (line_of m i (point_at s x.0) c (slice_index_or s (c - 1) origin))) (suc i) supports cell (λ j k d e f. inl (omega (arith, e)))))
 
 -- ---- which points they are of
-each_has : (Q : ℕ → ℕ → Type 0) (lines : List WallLine) (j c : ℕ) → Each lines (λ l. Q l.support l.position) → HasLine lines j c → Q j c
+pub each_has : (Q : ℕ → ℕ → Type 0) (lines : List WallLine) (j c : ℕ) → Each lines (λ l. Q l.support l.position) → HasLine lines j c → Q j c
 each_has Q [] j c e h = absurd h
 each_has Q (l ∷ lines) j c e (inl h) = subst (λ z. Q z c) h.0 (subst (Q l.support) h.1 e.0)
 each_has Q (l ∷ lines) j c e (inr h) = each_has Q lines j c e.1 h
@@ -161,3 +161,9 @@ have_numbers m p cell =
     (alpha m (point_at (support_at p.supports j) (pair_at cell j).0) (point_at (support_at p.supports j) c) ≡ alpha m (point_at (support_at p.supports z) (pair_at cell z).0) (point_at (support_at p.supports z) c))
     × (beta m (point_at (support_at p.supports j) (pair_at cell j).0) (point_at (support_at p.supports j) c) ≡ beta m (point_at (support_at p.supports z) (pair_at cell z).0) (point_at (support_at p.supports z) c)))
     w (refl, refl))
+
+-- each of a further point
+pub are_further : (m : MovingNormal) (p : Problem) (cell : Cell) → Each (wall_lines m 1 p.supports cell) (λ l. IsFurtherAt p cell (l.support - 1) l.position)
+are_further m p cell =
+    all_lines m (λ l. IsFurtherAt p cell (l.support - 1) l.position) 1 p.supports cell
+    (λ j k c e f. let w : j ≡ k - 1 = omega (arith, e) in subst (λ z. IsFurtherAt p cell z c) w f)
