@@ -75,7 +75,7 @@ module _ (p : Problem) (cell : Cell) (reduced : List (List ℤ)) (normal : Movin
       tell_sides_at u cell lines
       (tell_sides u cell normal (h.moving u (sym same)) reduced
       (subst (λ rows. IsEliminated p.dimension rows reduced) (same_rows p u cell same) h.answer) h.from (map coarse lines)
-      (coarse_lines p cell normal reduced lines made_lines) (coarse_fines p cell normal reduced lines))
+      (coarse_lines p cell normal lines made_lines) (coarse_fines p cell reduced lines))
 
   pub made_coarse : (q : Problem) → HasSamePoints q p → TellSidesAt (unperturbed q) cell lines
   made_coarse q same = subst (λ (u : Problem). TellSidesAt u cell lines) (sym same) own_coarse

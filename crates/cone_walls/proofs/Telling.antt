@@ -181,8 +181,8 @@ tell_sides_at p cell lines h P Q positive v n =
     turn : (q a b : ℤ) → q *ℤ a +ℤ b ≡ a *ℤ q +ℤ b
     turn q a b = omega (arith, ints)
 
--- the same numbers without ranks, and no parts
-module _ (p : Problem) (cell : Cell) (m : MovingNormal) (made : List (List ℤ)) where
+-- the same numbers without ranks
+module _ (p : Problem) (cell : Cell) (m : MovingNormal) where
   coarse_of : (l : WallLine) → IsLineOf p cell m l → IsLineOf (unperturbed p) cell m (coarse l)
   coarse_of l h =
       let j = l.support - 1 in
@@ -190,14 +190,16 @@ module _ (p : Problem) (cell : Cell) (m : MovingNormal) (made : List (List ℤ))
       subst (λ (y : Point). (l.alpha ≡ alpha m (point_at (support_at (unperturbed p).supports j) (pair_at cell j).0) y) × (l.beta ≡ beta m (point_at (support_at (unperturbed p).supports j) (pair_at cell j).0) y)) (read_point p j l.position)
       (subst (λ (x : Point). (l.alpha ≡ alpha m x (with_rank 0 (point_at (support_at p.supports j) l.position))) × (l.beta ≡ beta m x (with_rank 0 (point_at (support_at p.supports j) l.position)))) (read_point p j (pair_at cell j).0) h.1))
 
-  coarse_fine : (l : WallLine) → HasFine (unperturbed p) cell made (coarse l)
+  pub coarse_lines : (lines : List WallLine) → Each lines (IsLineOf p cell m) → Each (map coarse lines) (IsLineOf (unperturbed p) cell m)
+  coarse_lines lines h = each_map coarse (IsLineOf (unperturbed p) cell m) lines (each_weaker (IsLineOf p cell m) (λ l. IsLineOf (unperturbed p) cell m (coarse l)) lines coarse_of h)
+
+-- and no parts
+module _ (p : Problem) (cell : Cell) (made : List (List ℤ)) where
+  pub coarse_fine : (l : WallLine) → HasFine (unperturbed p) cell made (coarse l)
   coarse_fine l =
       let j = l.support - 1 in
       (tt, λ rank. subst (λ (s : List Point). pos 0 ≡ sum_of_rank (circuit_of (unperturbed p) cell made j l.position) (unperturbed p) cell (point_at s l.position) rank) (sym (support_unranked p.supports j))
       (sym (sum_unranked (circuit_of (unperturbed p) cell made j l.position) p cell (support_at p.supports j) l.position rank)))
-
-  pub coarse_lines : (lines : List WallLine) → Each lines (IsLineOf p cell m) → Each (map coarse lines) (IsLineOf (unperturbed p) cell m)
-  coarse_lines lines h = each_map coarse (IsLineOf (unperturbed p) cell m) lines (each_weaker (IsLineOf p cell m) (λ l. IsLineOf (unperturbed p) cell m (coarse l)) lines coarse_of h)
 
   pub coarse_fines : (lines : List WallLine) → Each (map coarse lines) (HasFine (unperturbed p) cell made)
   coarse_fines [] = tt
