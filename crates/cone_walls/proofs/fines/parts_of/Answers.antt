@@ -14,7 +14,12 @@ push_points-requires-clause-pair c =
     pair_inside c.args.problem.now c.args.cell.now c.pairs-pair-items.result.now c.pairs-pair-items.ensures.same c.requires.of c.loop-k.k c.loop-k-test.true
 
 pub loop-k-preserved : goal.loop-k-preserved
-loop-k-preserved c = ?
+loop-k-preserved c =
+    let e = length_pairs c.args.numbers.now (length c.args.cell.now) c.requires.count in
+    let s = ap length c.pairs-pair-items.ensures.same in
+    let t : c.loop-k.k < length c.pairs-pair-items.result.now = c.loop-k-test.true in
+    more_points c.args.problem.now c.args.cell.now c.pairs-pair-items.result.now c.pairs-pair-items.ensures.same c.requires.of c.loop-k.k c.loop-k-test.true
+    (c.args.support - 1) c.args.position _ (pairs_of c.args.numbers.now) (omega (arith, e, s, t)) c.loop-k.parts.items c.push_points.new.parts.items _ c.loop-k.invariant (rw c.numbers_at-both.ensures at c.in_ok-push_points.ensures)
 
 pub returns : goal.returns
 returns c =
