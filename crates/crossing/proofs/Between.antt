@@ -1,12 +1,12 @@
 -- the lines are positive exactly between their entry and their exit
-use Rattle.std.proofs.Common.{◌≡◌, inl, inr, ℕ, ◌+◌, ◌-◌, ◌<◌, ◌∙◌, List, length, ℤ, pos, neg_ℤ, ◌*ℤ◌, ◌<ℤ◌, refl, sym, ap, subst, arith}
+use Rattle.std.proofs.Common.{◌≡◌, inl, inr, ℕ, ◌+◌, ◌-◌, ◌<◌, ◌∙◌, List, length, ℤ, pos, neg_ℤ, ◌*ℤ◌, ◌<ℤ◌, refl, ap, subst, arith}
 use Rattle.std.proofs.lemmas.Int.{ints}
 use Rattle.std.proofs.lemmas.List.{get_or_default}
 use Rattle.wide_int.proofs.Order.{sign_cases}
 use Rattle.int_vectors.specs.Vectors.{IsZero, IsPositive, scale, at}
 use Rattle.lex_height.specs.Entries.{entries}
 use Rattle.lex_height.specs.Values as lex
-use Rattle.lex_height.specs.Order.{IsLess, IsSame}
+use Rattle.lex_height.specs.Order.{IsLess}
 use Rattle.lex_height.proofs.Comparing.{less_less, same_less, same_itself, less_as}
 use Rattle.crossing.specs.declared.line.WallLine.{WallLine}
 use Rattle.crossing.specs.declared.entry.Entry.{Entry}
@@ -21,7 +21,7 @@ use Rattle.crossing.specs.Entries.{RisesAt, IsGreatestRise, LiveSometime, IsEntr
 use Rattle.crossing.specs.Exits.{FallsAt, IsLeastFall, IsExit}
 use Rattle.crossing.specs.Between.{IsAfterEntry, IsBeforeExit, PositiveBetween}
 use Rattle.crossing.proofs.Lists.{at-scale, earlier_less, less_earlier, either, not_zero}
-use Rattle.crossing.proofs.Zeros.{turn, ratio_zero, ratio_positive, zero_later, less_level, turned_less, less_turn, level_start, level_value}
+use Rattle.crossing.proofs.Values.{turn, ratio_zero, ratio_positive, zero_later, less_level, turned_less, less_turn, level_start, level_value}
 use Rattle.crossing.proofs.Once.{has_at}
 
 -- ---- the zero of a line

@@ -1,20 +1,23 @@
 -- the answers of the leaders as ends
-use Rattle.std.proofs.Common.{◌≡◌, ◌≢◌, ℕ, ◌+◌, ◌-◌, ◌<◌, pos, ◌*ℤ◌, ◌<ℤ◌, ◌≤ℤ◌, List, length, Some, None, unwrap_or, is_some, true≢false, ℤ, refl, sym, ap, subst, arith, inl, inr}
-use Rattle.std.proofs.lemmas.Int.{ints}
-use Rattle.wide_int.specs.Fractions.{Fraction, IsLowest}
+use Rattle.std.proofs.Common.{◌≡◌, ◌≢◌, ℕ, ◌+◌, ◌-◌, ◌<◌, pos, ◌<ℤ◌, List, length, Some, None, unwrap_or, is_some, true≢false, ℤ, refl, sym, ap, subst, arith, inl, inr}
+use Rattle.int_vectors.specs.Vectors.{IsZero, IsPositive, at}
+use Rattle.lex_height.specs.Entries.{entries}
+use Rattle.lex_height.specs.Order.{IsLess}
+use Rattle.lex_height.specs.Values as lex
+use Rattle.lex_height.proofs.Comparing.{not_below_itself, less_not_back}
 use Rattle.crossing.specs.declared.line.WallLine.{WallLine}
 use Rattle.crossing.specs.declared.leaders.Way.{Way}
 use Rattle.crossing.specs.declared.leaders.Leaders.{Leaders}
 use Rattle.crossing.specs.declared.leaders.Leaders.TheVariants as led
-use Rattle.crossing.specs.Lines.{value_at, IsZeroAt}
+use Rattle.crossing.specs.Lines.{value, IsZeroAt}
 use Rattle.crossing.specs.Places.{HasAt, IsNowhere, IsFirst, IsOnly, AreFirstTwo}
-use Rattle.crossing.specs.Leading.{Goes, IsBefore, IsLed, nth, first_of}
+use Rattle.crossing.specs.Leading.{steep, start, Goes, IsBefore, IsLed, nth, first_of}
 use Rattle.crossing.proofs.Leading.{same_or_not}
 use Rattle.crossing.proofs.Once.{has_at}
-use Rattle.crossing.proofs.Zeros.{turn, zero_le, apart, even_zero, positive_too}
+use Rattle.crossing.proofs.Values.{turn, zero_le, apart, even_zero, positive_too}
 
 -- the line goes this way and is zero at the time
-abbrev pub GoesAt : Way → Fraction → WallLine → Type 0
+abbrev pub GoesAt : Way → lex.Value → WallLine → Type 0
 GoesAt way t line = Goes way line × IsZeroAt line t
 
 pub nothing : (a : ℕ) → None ≡ Some a → ⊥
@@ -37,27 +40,27 @@ module _ (way : Way) (lines : List WallLine) where
   none_before led.None a e h k lt g = absurd (nothing a e)
   none_before (led.One b) a e h k lt g = subst (λ j. ¬ (IsBefore way (nth lines k) (nth lines j))) (the_one b a e) (
       λ f. elim (same_or_not k b) [
-        | inl s ↦ let z = subst (λ j. IsBefore way (nth lines j) (nth lines b)) s f in omega (arith, ints, z)
-        | inr o ↦ let z = h.2 k lt g o in omega (arith, ints, z, f)
+        | inl s ↦ not_below_itself (start (nth lines b)) (steep way (nth lines b)) (subst (λ j. IsBefore way (nth lines j) (nth lines b)) s f)
+        | inr o ↦ less_not_back (start (nth lines b)) (steep way (nth lines b)) (start (nth lines k)) (steep way (nth lines k)) h.1 g (h.2 k lt g o) f
       ]
       )
   none_before (led.Two b d) a e h k lt g = subst (λ j. ¬ (IsBefore way (nth lines k) (nth lines j))) (the_one b a e) (h.6 k lt g)
 
   -- where the first leader is positive, so are all lines of this way
-  pub all_positive : (l : Leaders) → IsLed way lines (length lines) l → (p q : ℤ) → pos 0 <ℤ q → ((a : ℕ) → first_of l ≡ Some a → pos 0 <ℤ value_at (nth lines a) p q)
-      → (k : ℕ) → k < length lines → Goes way (nth lines k) → pos 0 <ℤ value_at (nth lines k) p q
+  pub all_positive : (l : Leaders) → IsLed way lines (length lines) l → (p : List ℤ) (q : ℤ) → pos 0 <ℤ q → ((a : ℕ) → first_of l ≡ Some a → IsPositive (value (nth lines a) p q))
+      → (k : ℕ) → k < length lines → Goes way (nth lines k) → IsPositive (value (nth lines k) p q)
   all_positive led.None h p q pq f k lt g = absurd (h k lt g)
   all_positive (led.One a) h p q pq f k lt g = positive_too way (nth lines a) (nth lines k) (first_goes (led.One a) a refl h).1 g (none_before (led.One a) a refl h k lt g) p q pq (f a refl)
   all_positive (led.Two a b) h p q pq f k lt g = positive_too way (nth lines a) (nth lines k) (first_goes (led.Two a b) a refl h).1 g (none_before (led.Two a b) a refl h k lt g) p q pq (f a refl)
 
   -- its zero is the first
-  pub zero_first : (l : Leaders) (a : ℕ) → first_of l ≡ Some a → IsLed way lines (length lines) l → (t : Fraction) → IsLowest t → IsZeroAt (nth lines a) t
-      → (place : ℕ) (p q : ℤ) → pos 0 <ℤ q → HasAt (λ line. Goes way line × (value_at line p q ≡ pos 0)) lines place → (turn way t.num *ℤ q) ≤ℤ (turn way p *ℤ t.den)
-  zero_first l a e h t lt z place p q pq at =
-      let lt_n : place - 1 < length lines = (let x = at.0 in let y = at.1 in omega arith) in
-      zero_le way (nth lines a) (nth lines (place - 1)) (first_goes l a e h).1 at.2.0 (none_before l a e h (place - 1) lt_n at.2.0) t lt z p q pq at.2.1
+  pub zero_first : (l : Leaders) (a : ℕ) → first_of l ≡ Some a → IsLed way lines (length lines) l → (t : lex.Value) → lex.IsLowest t → IsZeroAt (nth lines a) t
+      → (place : ℕ) (p : List ℤ) (q : ℤ) → pos 0 <ℤ q → HasAt (λ line. Goes way line × IsZero (value line p q)) lines place → ¬ (IsLess (turn way (at p)) q (turn way (at (entries t.parts))) t.den)
+  zero_first l a e h t lt z place p q pq at_place =
+      let lt_n : place - 1 < length lines = (let x = at_place.0 in let y = at_place.1 in omega arith) in
+      zero_le way (nth lines a) (nth lines (place - 1)) (first_goes l a e h).1 at_place.2.0 (none_before l a e h (place - 1) lt_n at_place.2.0) (entries t.parts) t.den lt.0.2 z p q pq at_place.2.1
 
-  module _ (t : Fraction) (low : IsLowest t) where
+  module _ (t : lex.Value) (low : lex.IsLowest t) where
     pub one_only : (a : ℕ) → IsLed way lines (length lines) (led.One a) → IsZeroAt (nth lines a) t → IsOnly (GoesAt way t) lines (a + 1)
     one_only a h z = (
       has_at (GoesAt way t) lines a h.0 (h.1, z),
@@ -65,7 +68,7 @@ module _ (way : Way) (lines : List WallLine) where
         | inl s ↦ (let x = at.0 in omega arith)
         | inr o ↦ absurd (
             let lt_n : other - 1 < length lines = (let x = at.0 in let y = at.1 in omega arith) in
-            apart way (nth lines a) (nth lines (other - 1)) h.1 at.2.0 (h.2 (other - 1) lt_n at.2.0 o) t low z at.2.1
+            apart way (nth lines a) (nth lines (other - 1)) h.1 at.2.0 (h.2 (other - 1) lt_n at.2.0 o) (entries t.parts) t.den low.0.2 z at.2.1
             )
       ],
     )
@@ -74,7 +77,7 @@ module _ (way : Way) (lines : List WallLine) where
     not_between : (a b : ℕ) → IsLed way lines (length lines) (led.Two a b) → IsZeroAt (nth lines a) t → (other : ℕ) → other < b + 1 → other - 1 ≢ a → ¬ (HasAt (GoesAt way t) lines other)
     not_between a b h z other lt o at =
         let lt_b : other - 1 < b = (let x = at.0 in omega arith) in
-        apart way (nth lines a) (nth lines (other - 1)) h.2 at.2.0 (h.5 (other - 1) lt_b at.2.0 o) t low z at.2.1
+        apart way (nth lines a) (nth lines (other - 1)) h.2 at.2.0 (h.5 (other - 1) lt_b at.2.0 o) (entries t.parts) t.den low.0.2 z at.2.1
 
     pub two_first : (a b : ℕ) → IsLed way lines (length lines) (led.Two a b) → IsZeroAt (nth lines a) t → AreFirstTwo (GoesAt way t) lines (a + 1) (b + 1)
     two_first a b h z =
@@ -85,7 +88,7 @@ module _ (way : Way) (lines : List WallLine) where
             λ other lt at. not_between a b h z other (omega arith) (λ e. let x = at.0 in omega arith) at,
           ),
           omega arith,
-          has_at (GoesAt way t) lines b bn (h.3, even_zero way (nth lines a) (nth lines b) h.2 h.3 h.4 t low z),
+          has_at (GoesAt way t) lines b bn (h.3, even_zero way (nth lines a) (nth lines b) h.2 h.3 h.4 (entries t.parts) t.den low.0.2 z),
           λ other lo hi at. not_between a b h z other hi (λ e. omega arith) at,
         )
 

@@ -5,4 +5,5 @@ pub mod Found
 pub mod Leading
 pub mod Lists
 pub mod Once
-pub mod Zeros
+pub mod Parts
+pub mod Values

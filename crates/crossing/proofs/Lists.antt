@@ -3,6 +3,7 @@ use Rattle.std.proofs.Common.{◌≡◌, ◌⊎◌, inl, inr, ℕ, zero, suc, �
 use Rattle.std.proofs.lemmas.Int.{ints}
 use Rattle.std.proofs.Math.IntN.{ℤ, pos, neg_ℤ, ◌+ℤ◌, ◌-ℤ◌, ◌*ℤ◌, +ℤ_idl, +ℤ_idr, *ℤ-zero}
 use Rattle.wide_int.proofs.Ring.{as_D, Ds, same_D}
+use Rattle.wide_int.proofs.Order.{sign_cases}
 use Rattle.int_vectors.specs.Vectors.{IsZero, IsPositive, scale, add, at}
 use Rattle.lex_height.specs.Order.{IsLess, IsSame}
 use Rattle.lex_height.specs.Order as order
@@ -58,6 +59,23 @@ not_zero [] p z = p
 not_zero (x ∷ u) (inl p) z = let e = z.0 in omega (arith, ints, p, e)
 not_zero (x ∷ u) (inr p) z = not_zero u p.1 z.1
 
+-- positive is decided
+pub positive_stable : (u : List ℤ) → ¬ (¬ (IsPositive u)) → IsPositive u
+positive_stable [] n = absurd (n (λ p. p))
+positive_stable (x ∷ u) n =
+    sign_cases x
+    (λ m. absurd (n (below m)))
+    (λ z. inr (z, positive_stable u (λ k. n (rest z k))))
+    inl
+  where
+    below : x <ℤ pos 0 → ¬ (IsPositive (x ∷ u))
+    below m (inl p) = omega (arith, ints, m, p)
+    below m (inr p) = let e = p.0 in omega (arith, ints, m, e)
+
+    rest : x ≡ pos 0 → ¬ (IsPositive u) → ¬ (IsPositive (x ∷ u))
+    rest z k (inl p) = omega (arith, ints, z, p)
+    rest z k (inr p) = k p.1
+
 -- ---- t / q and u / p
 module _ (t : List ℤ) (q : ℤ) (u : List ℤ) (p : ℤ) where
   abbrev difference : List ℤ
@@ -93,9 +111,9 @@ module _ (t : List ℤ) (q : ℤ) (u : List ℤ) (p : ℤ) where
     | inr r ↦ inr (elim r [
       | inl z ↦ inl (λ k. let a = z k in let e = difference_is k in omega (arith, ints, a, e))
       | inr h ↦ inr (
-          h.0,
-          (let a = h.1 in let e = difference_is h.0 in omega (arith, ints, a, e)),
-          λ k lt. let a = h.2 k lt in let e = difference_is k in omega (arith, ints, a, e),
+        h.0,
+        (let a = h.1 in let e = difference_is h.0 in omega (arith, ints, a, e)),
+        λ k lt. let a = h.2 k lt in let e = difference_is k in omega (arith, ints, a, e),
       )
     ])
   ]

@@ -1,7 +1,7 @@
 -- What the inner functions find; no public clause cites these.
 use Rattle.std.specs.Prelude.{◌≡◌, ℕ, ◌<◌, pos, neg_ℤ, List, length, Option, Some, None, MatchOption}
 use Rattle.int_vectors.specs.Vectors.{IsPositive}
-use Rattle.lex_height.specs.Order.{IsLess}
+use Rattle.lex_height.specs.Order.{IsLess, IsSame}
 use Rattle.crossing.specs.declared.line.WallLine.{WallLine}
 use Rattle.crossing.specs.declared.leaders.Leaders.{Leaders}
 use Rattle.crossing.specs.Lines.{constant, IsFlat}
@@ -20,6 +20,14 @@ IsLow line = (line.beta ≡ pos 0) × ¬ (IsPositive (constant line))
 -- the zero of a rising line comes before that of a falling line
 abbrev pub RisesFirst : WallLine → WallLine → Type 0
 RisesFirst rise fall = IsLess (λ k. neg_ℤ (start rise k)) rise.beta (start fall) (neg_ℤ fall.beta)
+
+-- the two zeros are the same
+abbrev pub RisesWith : WallLine → WallLine → Type 0
+RisesWith rise fall = IsSame (λ k. neg_ℤ (start rise k)) rise.beta (start fall) (neg_ℤ fall.beta)
+
+-- the zero of a rising line comes after that of a falling line
+abbrev pub FallsFirst : WallLine → WallLine → Type 0
+FallsFirst rise fall = IsLess (start fall) (neg_ℤ fall.beta) (λ k. neg_ℤ (start rise k)) rise.beta
 
 abbrev pub IsOpenBetween : List WallLine → Option ℕ → Option ℕ → Type 0
 IsOpenBetween lines None fall = Unit {0}

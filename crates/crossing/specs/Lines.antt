@@ -1,15 +1,15 @@
 -- Lines over time. A time t / q is a list t of entries by rank, 0 past its end, over q > 0.
-use Rattle.std.specs.Prelude.{◌≡◌, ℤ, pos, neg_ℤ, ◌<ℤ◌, ◌≤◌, List, ◌∷◌, length, All}
+use Rattle.std.specs.Prelude.{ℤ, pos, neg_ℤ, ◌<ℤ◌, ◌≤◌, List, ◌∷◌, length, All}
 use Rattle.wide_int.specs.Whole.{FitsWhole}
 use Rattle.int_vectors.specs.Vectors.{IsZero, IsPositive, scale, add}
 use Rattle.lex_height.specs.Entries.{entries_from, entries}
-use Rattle.lex_height.specs.Values as values
+use Rattle.lex_height.specs.Values as lex
 use Rattle.crossing.specs.declared.fine.TheConstants.{FINE_PARTS}
 use Rattle.crossing.specs.declared.line.WallLine.{WallLine}
 
 -- the numbers fit, and the fine parts are few enough, in rising rank from 1, none zero
 abbrev pub FitsLine : WallLine → Type 0
-FitsLine line = FitsWhole line.alpha × FitsWhole line.beta × (length line.fine ≤ FINE_PARTS) × values.AreParts 1 line.fine
+FitsLine line = FitsWhole line.alpha × FitsWhole line.beta × (length line.fine ≤ FINE_PARTS) × lex.AreParts 1 line.fine
 
 -- the entries of the value at time 0
 abbrev pub constant : WallLine → List ℤ
@@ -34,7 +34,7 @@ abbrev pub Rises : WallLine → Type 0
 Rises line = pos 0 <ℤ line.beta
 
 -- zero at the time u
-abbrev pub IsZeroAt : WallLine → values.Value → Type 0
+abbrev pub IsZeroAt : WallLine → lex.Value → Type 0
 IsZeroAt line u = IsZero (value line (entries u.parts) u.den)
 
 -- every line is positive at t / q

@@ -1,12 +1,14 @@
 ghost use Rattle.std.specs.Prelude.{◌≡◌, ◌<◌, ◌≤◌, pos, All, HoldsAt, length, IsTrue, ◌↔◌, ℕ};
+ghost use Rattle.std.specs.Ordering.{MatchOrdering};
 ghost use Rattle.int_vectors.specs.Vectors.{IsPositive};
 ghost use Rattle.crossing.specs.Lines.{FitsLine, constant};
 ghost use Rattle.crossing.specs.Leading.{Goes, IsLed};
 ghost use Rattle.crossing.specs.Entries.{IsEntry};
-ghost use Rattle.crossing.specs.Found.{IsLow, IsOpen, RisesFirst};
+ghost use Rattle.crossing.specs.Found.{IsLow, IsOpen, RisesFirst, RisesWith, FallsFirst};
 
 use crate::leaders::{Leaders, Way, leaders_of};
-use crate::line::{WallLine, zero_of, zero_parts};
+use crate::line::WallLine;
+use crate::zeros::{zero_of, zero_parts};
 use lex_height::{Lex, compare_parts};
 use std::cmp::Ordering;
 use wide_int::compare;
@@ -36,13 +38,12 @@ fn is_positive(line: &WallLine) -> bool
     requires { FitsLine line.now }
     ensures { IsTrue result ↔ IsPositive (constant line.now) }
 {
-    match line.alpha.cmp(&0) {
-        Ordering::Less => false,
-        Ordering::Greater => true,
-        Ordering::Equal => match line.fine.as_slice() {
-            [] => false,
-            [part, ..] => part.num > 0,
-        },
+    if line.alpha != 0 {
+        return line.alpha > 0;
+    }
+    match line.fine.as_slice() {
+        [] => false,
+        [part, ..] => part.num > 0,
     }
 }
 
@@ -59,6 +60,26 @@ fn has_low(lines: &[WallLine]) -> bool
     false
 }
 
+// The order of the zeros of a rising and a falling line.
+fn compare_zeros(rise: &WallLine, fall: &WallLine) -> Ordering
+    requires rise_fits { FitsLine rise.now }
+    requires fall_fits { FitsLine fall.now }
+    requires rises { Goes Way.Rising rise.now }
+    requires falls { Goes Way.Falling fall.now }
+    ensures { MatchOrdering result (RisesFirst rise.now fall.now) (RisesWith rise.now fall.now) (FallsFirst rise.now fall.now) }
+{
+    let steep = -fall.beta;
+    match compare(-rise.alpha, rise.beta, fall.alpha, steep) {
+        Ordering::Equal => compare_parts(
+            zero_parts(Way::Rising, rise).as_slice(),
+            rise.beta,
+            zero_parts(Way::Falling, fall).as_slice(),
+            steep,
+        ),
+        order => order,
+    }
+}
+
 // Whether the zero of a rising line comes before that of a falling line.
 fn comes_before(rise: &WallLine, fall: &WallLine) -> bool
     requires rise_fits { FitsLine rise.now }
@@ -67,16 +88,7 @@ fn comes_before(rise: &WallLine, fall: &WallLine) -> bool
     requires falls { Goes Way.Falling fall.now }
     ensures { IsTrue result ↔ RisesFirst rise.now fall.now }
 {
-    let ahead = match compare(-rise.alpha, rise.beta, fall.alpha, -fall.beta) {
-        Ordering::Equal => compare_parts(
-            zero_parts(rise).as_slice(),
-            rise.beta,
-            zero_parts(fall).as_slice(),
-            -fall.beta,
-        ),
-        order => order,
-    };
-    ahead.is_lt()
+    compare_zeros(rise, fall).is_lt()
 }
 
 // Whether the last zero of a rising line comes before the first zero of a falling line.
@@ -107,11 +119,11 @@ pub fn entry_of(lines: &[WallLine]) -> Entry
     match rising {
         Leaders::None => Entry::Always,
         Leaders::One(index) => Entry::At {
-            time: zero_of(&lines[index]),
+            time: zero_of(Way::Rising, &lines[index]),
             which: index + 1,
         },
         Leaders::Two(first, second) => Entry::Tied {
-            time: zero_of(&lines[first]),
+            time: zero_of(Way::Rising, &lines[first]),
             first: first + 1,
             second: second + 1,
         },

@@ -4,7 +4,8 @@ ghost use Rattle.crossing.specs.Exits.{IsExit};
 ghost use Rattle.crossing.specs.Found.{IsFirstFlat};
 
 use crate::leaders::{Leaders, Way, leaders_of};
-use crate::line::{WallLine, zero_of};
+use crate::line::WallLine;
+use crate::zeros::zero_of;
 use lex_height::Lex;
 
 /// Where the time on which all lines are positive ends. Places count from 1.
@@ -33,7 +34,10 @@ fn is_flat(line: &WallLine) -> bool
     requires { FitsLine line.now }
     ensures { IsTrue result ↔ IsFlat line.now }
 {
-    line.alpha == 0 && line.beta == 0 && line.fine.as_slice().is_empty()
+    match line.fine.as_slice() {
+        [] => line.alpha == 0 && line.beta == 0,
+        [_, ..] => false,
+    }
 }
 
 // The index of the first line that is zero at all times.
@@ -62,11 +66,11 @@ pub fn exit_of(lines: &[WallLine]) -> Exit
     match leaders_of(Way::Falling, lines) {
         Leaders::None => Exit::Never,
         Leaders::One(index) => Exit::At {
-            time: zero_of(&lines[index]),
+            time: zero_of(Way::Falling, &lines[index]),
             which: index + 1,
         },
         Leaders::Two(first, second) => Exit::Tied {
-            time: zero_of(&lines[first]),
+            time: zero_of(Way::Falling, &lines[first]),
             first: first + 1,
             second: second + 1,
         },

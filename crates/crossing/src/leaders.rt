@@ -37,8 +37,8 @@ impl Leaders {
     }
 }
 
-// How much the line goes this way in one unit of time.
-fn steepness(way: Way, line: &WallLine) -> i128
+/// How much the line goes this way in one unit of time.
+pub fn steepness(way: Way, line: &WallLine) -> i128
     requires { FitsLine line.now }
     ensures value { result ≡ steep way line.now }
     ensures fits { FitsWhole result }

@@ -7,9 +7,12 @@ mod fine;
 pub mod laws;
 mod leaders;
 mod line;
+mod zeros;
 
 pub use entry::{Entry, entry_of};
 pub use exit::{Exit, exit_of};
 pub use fine::{FINE_PARTS, Fine};
 pub use line::WallLine;
 
+#[cfg(test)]
+mod tests;

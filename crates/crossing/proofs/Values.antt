@@ -1,5 +1,5 @@
 -- values and zeros of lines, entry by entry
-use Rattle.std.proofs.Common.{◌≡◌, ◌⊎◌, inl, inr, ℕ, ◌∙◌, List, ℤ, pos, neg_ℤ, ◌+ℤ◌, ◌-ℤ◌, ◌*ℤ◌, ◌<ℤ◌, sym, ap, arith}
+use Rattle.std.proofs.Common.{◌≡◌, inl, inr, ℕ, ◌∙◌, List, ℤ, pos, neg_ℤ, ◌+ℤ◌, ◌-ℤ◌, ◌*ℤ◌, ◌<ℤ◌, sym, ap, arith}
 use Rattle.std.proofs.lemmas.Int.{ints}
 use Rattle.std.proofs.Math.IntN.{*ℤ_comm}
 use Rattle.wide_int.proofs.Ring.{as_D, Ds, same_D, zero_mul_ℤ}
@@ -92,7 +92,7 @@ module _ (way : Way) (x y : WallLine) (gx : Goes way x) (gy : Goes way y) where
   positive_too n t q pq h = ratio_positive way y t q (less_level (turn way (at t)) q (constant x) (steep way x) (constant y) (steep way y) pq gx gy (positive_ratio way x t q h) n)
 
 -- ---- the order of times as it runs on this way
-double_neg : (x : ℤ) → neg_ℤ (neg_ℤ x) ≡ x
+pub double_neg : (x : ℤ) → neg_ℤ (neg_ℤ x) ≡ x
 double_neg x = omega (arith, ints)
 
 pub turned_less : (w : ℕ → ℤ) (p : ℤ) (u : ℕ → ℤ) (q : ℤ) → IsLess (turn Rising w) p (turn Rising u) q → IsLess u q w p
