@@ -12,6 +12,7 @@ use Rattle.crossing.specs.declared.line.WallLine.{WallLine}
 use Rattle.inner_normal.specs.declared.moving.MovingNormal.{MovingNormal}
 use Rattle.cone_walls.specs.Numbers.{alpha, beta}
 use Rattle.cone_walls.specs.Listed.{line_of, lines_from, wall_lines}
+use Rattle.cone_walls.specs.Parts.{IsFurtherLine}
 use Rattle.cone_walls.specs.Places.{IsEarlier, AreInOrder, HasLine, AreOfFurtherPoints, HasNumbers}
 
 -- ---- either way of a test
@@ -167,3 +168,22 @@ pub are_further : (m : MovingNormal) (p : Problem) (cell : Cell) → Each (wall_
 are_further m p cell =
     all_lines m (λ l. IsFurtherAt p cell (l.support - 1) l.position) 1 p.supports cell
     (λ j k c e f. let w : j ≡ k - 1 = omega (arith, e) in subst (λ z. IsFurtherAt p cell z c) w f)
+
+-- of a support of the problem
+inside : (supports : List (List Point)) (cell : Cell) (j c : ℕ) → IsFurther (support_at supports j) (pair_at cell j).0 (pair_at cell j).1 c → j < length supports
+inside [] cell j c h = let a = h.0 in let b = h.1 in absurd (omega (arith, a, b))
+inside (s ∷ supports) [] zero c h = omega arith
+inside (s ∷ supports) (x ∷ cell) zero c h = omega arith
+inside (s ∷ supports) [] (suc j) c h = let r = inside supports [] j c h in omega (arith, r)
+inside (s ∷ supports) (x ∷ cell) (suc j) c h = let r = inside supports cell j c h in omega (arith, r)
+
+pub further_lines : (m : MovingNormal) (p : Problem) (cell : Cell) → length p.supports ≡ p.dimension → Each (wall_lines m 1 p.supports cell) (IsFurtherLine p cell)
+further_lines m p cell n =
+    all_lines m (IsFurtherLine p cell) 1 p.supports cell
+    (λ j k c e f.
+    let w : j ≡ k - 1 = omega (arith, e) in
+    let l = inside p.supports cell j c f in
+    (omega (arith, e), omega (arith, e, l, n), subst (λ z. IsFurtherAt p cell z c) w f))
+
+pub no_parts : (m : MovingNormal) (p : Problem) (cell : Cell) → Each (wall_lines m 1 p.supports cell) (λ l. l.fine ≡ [])
+no_parts m p cell = all_lines m (λ l. l.fine ≡ []) 1 p.supports cell (λ j k c e f. refl)

@@ -1,26 +1,32 @@
 -- what is said of the lines that are made
-use Rattle.std.proofs.Common.{◌≡◌, ◌⊎◌, ◌↔◌, ℕ, suc, ◌-◌, ◌≤◌, List, [], ◌∷◌, map, ℤ, arith, refl, sym, ap, ap₂, subst, ◌∙◌}
+use Rattle.std.proofs.Common.{◌≡◌, ◌⊎◌, ◌↔◌, ℕ, suc, ◌-◌, ◌≤◌, List, [], ◌∷◌, map, ℤ, pos, arith, refl, sym, ap, ap₂, subst, ◌∙◌}
 use Rattle.int_vectors.specs.Vectors.{Each}
 use Rattle.reduced_rows.specs.CellRefusals.{IsEliminated}
-use Rattle.cayley.specs.Problems.{Problem, IsProblem, unperturbed, HasSamePoints}
+use Rattle.lex_height.specs.declared.part.LexPart.{LexPart}
+use Rattle.lex_height.specs.Entries.{entry}
+use Rattle.lex_height.specs.Values.{AreParts}
+use Rattle.lex_height.proofs.Ranks.{entry_here}
+use Rattle.cayley.specs.Problems.{Version, Point, Problem, point_at, unperturbed, ranked_supports, HasRanks, HasSamePoints}
+use Rattle.cayley.specs.Problems.Version.{version1}
 use Rattle.cayley.specs.Cells.{Cell, IsIndependent}
 use Rattle.cayley.specs.Rows.{edge_rows}
-use Rattle.cayley.specs.Dependencies.{IsFurtherAt}
+use Rattle.cayley.specs.Dependencies.{support_at, IsFurtherAt}
 use Rattle.cayley.proofs.Lists.Each.{each_map, each_unmap, each_weaker, each_both}
-use Rattle.cayley.proofs.OneCell.Unperturbed.{same_rows, same_unperturbed}
+use Rattle.cayley.proofs.OneCell.Unperturbed.{unranked, support_unranked, same_rows, same_unperturbed}
 use Rattle.crossing.specs.declared.line.WallLine.{WallLine}
 use Rattle.crossing.specs.declared.entry.Entry.TheVariants.{Dead}
 use Rattle.crossing.specs.Entries.{IsEntry}
 use Rattle.inner_normal.specs.declared.moving.MovingNormal.{MovingNormal}
 use Rattle.inner_normal.specs.MovingNormals.{IsMovingNormal}
 use Rattle.cone_walls.specs.Listed.{wall_lines, coarse}
-use Rattle.cone_walls.specs.Fines.{HasFine}
+use Rattle.cone_walls.specs.Fines.{circuit_of, sum_of_rank, HasFine}
 use Rattle.cone_walls.specs.Lives.{IsNeverAlive, LivesBetween}
 use Rattle.cone_walls.specs.Made.{IsMade}
 use Rattle.cone_walls.specs.Places.{IsEarlier, AreInOrder, HasLine, AreOfFurtherPoints, HasNumbers}
 use Rattle.cone_walls.specs.Sides.{TellSides, TellSidesAt}
 use Rattle.cone_walls.specs.Workings.{FitsWallWorking}
 use Rattle.cone_walls.proofs.FurtherLines.{of_further_points, have_numbers, are_further}
+use Rattle.cone_walls.proofs.FineValues.{sum_unranked}
 use Rattle.cone_walls.proofs.Telling.{IsLineOf, tell_sides, tell_sides_at, coarse_lines, coarse_fines}
 use Rattle.cone_walls.proofs.Living.{never_dead, lives_between}
 use Rattle.cone_walls.proofs.Outcomes.{working_fits}
@@ -39,6 +45,22 @@ has_line (l ∷ lines) j c = ap (λ (A : Type 0). ((l.support ≡ j) × (l.posit
 
 coarse_places : (p : Problem) (cell : Cell) (lines : List WallLine) → AreOfFurtherPoints p cell (map coarse lines) → AreOfFurtherPoints p cell lines
 coarse_places p cell lines h = (in_order lines h.0, λ j c. subst (λ (A : Type 0). A ↔ ((1 ≤ j) × IsFurtherAt p cell (j - 1) c)) (has_line lines j c) (h.1 j c))
+
+-- ---- without ranks there are no parts
+no_parts : (n : ℕ) (parts : List LexPart) → AreParts n parts → ((rank : ℕ) → entry parts rank ≡ pos 0) → parts ≡ []
+no_parts n [] h z = refl
+no_parts n (part ∷ parts) h z = absurd (h.1 (sym (entry_here part parts part.rank refl) ∙ z part.rank))
+
+plain_fine : (p : Problem) (cell : Cell) (reduced : List (List ℤ)) → HasRanks p → p.version ≡ version1 → (line : WallLine) → HasFine p cell reduced line → line.fine ≡ []
+plain_fine p cell reduced ranks first line f =
+    let j = line.support - 1 in
+    let n = circuit_of p cell reduced j line.position in
+    let same : p ≡ unperturbed p = ap₂ (λ (v : Version) (ss : List (List Point)). record p { version = v; supports = ss }) first (ranks ∙ ap (λ (v : Version). ranked_supports v p.files p.supports) first) in
+    let here : support_at p.supports j ≡ unranked (support_at p.supports j) = ap (λ (q : Problem). support_at q.supports j) same ∙ support_unranked p.supports j in
+    no_parts 1 line.fine f.0
+    (λ rank. f.1 rank
+    ∙ ap₂ (λ (q : Problem) (s : List Point). sum_of_rank n q cell (point_at s line.position) rank) same here
+    ∙ sum_unranked n p cell (support_at p.supports j) line.position rank)
 
 module _ (p : Problem) (cell : Cell) (reduced : List (List ℤ)) (normal : MovingNormal) (lines : List WallLine) (h : IsMade p cell reduced normal lines) where
   moves : IsMovingNormal p cell normal
@@ -85,3 +107,7 @@ module _ (p : Problem) (cell : Cell) (reduced : List (List ℤ)) (normal : Movin
 
   pub made_life : LivesBetween p cell lines
   made_life = lives_between p cell moves.problem moves.of moves.independent lines made_further made_places made_sides
+
+  -- version 1
+  pub made_plain : HasRanks p → p.version ≡ version1 → Each lines (λ line. line.fine ≡ [])
+  made_plain ranks first = each_weaker (HasFine p cell reduced) (λ line. line.fine ≡ []) lines (λ line f. plain_fine p cell reduced ranks first line f) h.fine

@@ -6,7 +6,7 @@ use Rattle.cone_walls.proofs.sums.checked_line.Goals as goal
 pub returns-in_err-beta-clause-value : goal.returns-in_err-beta-clause-value
 returns-in_err-beta-clause-value c =
     let fd : FitsSigned w128 c.args.normal.now.den = search rules in
-    let fs : FitsSigned w128 (pos c.args.c.now.speed -ℤ pos c.args.a.now.speed) = fits_signed_from_abs w128 _ (rw c.speed_difference.ensures.value at c.speed_difference.ensures.fits) in
+    let fs : FitsSigned w128 (c.args.c.now.speed -ℤ c.args.a.now.speed) = fits_signed_from_abs w128 _ (rw c.speed_difference.ensures.value at c.speed_difference.ensures.fits) in
     let r = rw (c.speed_difference.ensures.value, c.as_slice-2.ensures.value) at c.in_err-beta.ensures.value in
     let n = simp to_z-of_z at r in
     rw c.from_residual-in_err-beta.ensures (λ f. n f.1)
