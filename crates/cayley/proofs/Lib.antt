@@ -1,6 +1,7 @@
 pub mod Lists
 pub mod Algebra
 pub mod Order
+pub mod Ranking
 pub mod OneCell
 pub mod Flipping
 pub mod Life

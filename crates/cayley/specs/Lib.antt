@@ -23,3 +23,4 @@ pub mod Begins
 pub mod Shapes
 pub mod Resting
 pub mod Reaches
+pub mod Ranks

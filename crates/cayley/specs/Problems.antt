@@ -7,6 +7,11 @@ pub data Version : Type 0 where
   version1 : Version
   version2 : Version
 
+-- how a file names its form
+abbrev pub version_number : Version → ℕ
+version_number version1 = 1
+version_number version2 = 2
+
 -- the height at time t is base + speed t, and an infinitesimal of its own where the rank isn't 0
 pub record Point : Type 0 where
   pub coordinates : List ℤ
@@ -41,9 +46,13 @@ EachSupport i [] (s ∷ supports) P = ⊥
 EachSupport i (f ∷ files) [] P = ⊥
 EachSupport i (f ∷ files) (s ∷ supports) P = P i f s × EachSupport (suc i) files supports P
 
+-- no corner in any support
+abbrev pub HasNoCorners : Problem → Type 0
+HasNoCorners p = EachSupport 1 p.files p.supports (λ i f s. length s ≡ f)
+
 -- no corner in every support, or one more than the dimension in every support
 abbrev pub HasCorners : Problem → Type 0
-HasCorners p = EachSupport 1 p.files p.supports (λ i f s. length s ≡ f)
+HasCorners p = HasNoCorners p
     ⊎ EachSupport 1 p.files p.supports (λ i f s. length s ≡ f + (p.dimension + 1))
 
 -- every file point rests

@@ -4,8 +4,8 @@ use Rattle.int_vectors.specs.Vectors.{Each}
 use Rattle.cayley.specs.declared.faults.ShapeFault.{ShapeFault}
 use Rattle.cayley.specs.declared.faults.ShapeFault.TheVariants.{BadShape, Repeated, Range, StartRange, OutOfMemory}
 use Rattle.cayley.specs.Files.{FilePoint, File}
-use Rattle.cayley.specs.Problems.{Point, Problem, origin, point_at}
-use Rattle.cayley.specs.Valid.{IsStart, IsWithinFile, IsWithinProblem, IsWithinCorners, HasFileShape, HasProblemShape, support_at, file_count_at}
+use Rattle.cayley.specs.Problems.{Point, Problem, IsStill, origin, point_at}
+use Rattle.cayley.specs.Valid.{IsHeight, IsStart, IsWithinFile, IsWithinProblem, IsWithinCorners, HasFileShape, HasProblemShape, support_at, file_count_at}
 
 abbrev pub IsPosition : {A : Type 0} → List A → ℕ → Type 0
 IsPosition xs p = (1 ≤ p) × (p ≤ length xs)
@@ -86,12 +86,34 @@ abbrev pub IsFirstCorner : List Point → ℕ → Type 0
 IsFirstCorner corners k = (k < length corners) × ¬ (IsWithinCorners (slice_index_or corners k origin))
     × ((j : ℕ) → j < k → IsWithinCorners (slice_index_or corners j origin))
 
--- why supports aren't a problem
+-- why supports aren't a problem whose file points rest
 abbrev pub IsProblemFault : Problem → ShapeFault → Type 0
-IsProblemFault p BadShape = ¬ (HasProblemShape p)
-IsProblemFault p (Repeated i q) = HasProblemShape p
+IsProblemFault p BadShape = ¬ (HasProblemShape p × IsStill p)
+IsProblemFault p (Repeated i q) = HasProblemShape p × IsStill p
     × IsPlaceFault (λ i q. IsFaultyOf (file_count_at p i) (support_at p i) q) (λ i q. IsOutsideOf (file_count_at p i) (support_at p i) q) (Repeated i q)
-IsProblemFault p (Range i q) = HasProblemShape p
+IsProblemFault p (Range i q) = HasProblemShape p × IsStill p
     × IsPlaceFault (λ i q. IsFaultyOf (file_count_at p i) (support_at p i) q) (λ i q. IsOutsideOf (file_count_at p i) (support_at p i) q) (Range i q)
 IsProblemFault p (StartRange i) = ⊥
 IsProblemFault p OutOfMemory = Unit {0}
+
+-- a second height for each point of the file
+abbrev pub HasSecondHeights : File → List (List ℤ) → Type 0
+HasSecondHeights file second = map length second ≡ map length file.supports
+
+-- a second height is out of its limits
+abbrev pub IsOutsideHeight : List (List ℤ) → ℕ → ℕ → Type 0
+IsOutsideHeight second i q =
+    let heights = slice_index_or second (i - 1) [] in
+    IsPosition heights q × ¬ (IsHeight (slice_index_or heights (q - 1) (pos 0)))
+
+-- a second height for each point of the file, all of them within their limits
+abbrev pub AreSecondHeights : File → List (List ℤ) → Type 0
+AreSecondHeights file second = HasSecondHeights file second × Each second (λ heights. Each heights IsHeight)
+
+-- why second heights don't make a problem with the file's points
+abbrev pub IsBetweenFault : File → List (List ℤ) → ShapeFault → Type 0
+IsBetweenFault file second BadShape = ¬ (HasSecondHeights file second)
+IsBetweenFault file second (Repeated i q) = ⊥
+IsBetweenFault file second (Range i q) = HasSecondHeights file second × IsFirst (IsOutsideHeight second) i q
+IsBetweenFault file second (StartRange i) = ⊥
+IsBetweenFault file second OutOfMemory = Unit {0}

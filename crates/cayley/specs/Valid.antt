@@ -1,9 +1,9 @@
 -- What the types of cells, files and problems keep.
-use Rattle.std.specs.Prelude.{◌≡◌, ◌≢◌, ℕ, ◌<◌, ◌≤◌, ◌-◌, List, [], MatchOption, length, map, take, drop, ℤ, pos, ◌≤ℤ◌, unsigned_abs, slice_index_or}
+use Rattle.std.specs.Prelude.{◌≡◌, ◌≢◌, ◌⊎◌, ℕ, ◌<◌, ◌≤◌, ◌-◌, List, [], MatchOption, length, map, take, drop, ℤ, pos, ◌+ℤ◌, ◌≤ℤ◌, unsigned_abs, slice_index_or}
 use Rattle.int_vectors.specs.Vectors.{Each}
 use Rattle.cayley.specs.Cells.{Cell, IsCell}
 use Rattle.cayley.specs.Files.{FilePoint, File}
-use Rattle.cayley.specs.Problems.{version1, Point, Problem, IsProblem, EachSupport, HasCorners, IsStill, HasRanks}
+use Rattle.cayley.specs.Problems.{version1, Point, Problem, IsProblem, EachSupport, HasNoCorners, HasCorners, IsStill, HasRanks}
 
 -- one to sixteen pairs, each of which rises
 abbrev pub IsValidCell : Cell → Type 0
@@ -47,15 +47,14 @@ pub record HasFileShape (file : File) : Type 0 where
 
 -- what a lift file keeps
 pub record IsValidFile (file : File) : Type 0 where
-  pub version : file.version ≡ version1
   pub shape : HasFileShape file
   pub limits : Each file.supports (λ s. Each s IsWithinFile)
   pub distinct : Each file.supports (λ s. AreDistinct (map (λ (x : FilePoint). x.coordinates) s))
   pub starts : MatchOption file.starts (Unit {0}) (λ starts. Each starts (λ s. Each s IsStart))
 
--- the numbers of a file point of a problem are within their limits
+-- the coordinates of a file point of a problem and its heights at the times 0 and 1 are within their limits
 abbrev pub IsWithinProblem : Point → Type 0
-IsWithinProblem x = Each x.coordinates IsCoordinate × IsHeight x.base
+IsWithinProblem x = Each x.coordinates IsCoordinate × IsHeight x.base × IsHeight (x.base +ℤ x.speed)
 
 -- the numbers of a corner are within their limits
 abbrev pub IsWithinCorners : Point → Type 0
@@ -72,18 +71,17 @@ pub record IsStillProblem (p : Problem) : Type 0 where
   pub still : IsStill p
   pub corners : IsMoving p
 
--- dimension, counts, lengths and speeds of a problem
+-- dimension, counts, lengths and speeds of a problem; file points move only in version 1 and without corners
 pub record HasProblemShape (p : Problem) : Type 0 where
   pub dimension : (1 ≤ p.dimension) × (p.dimension ≤ 16)
   pub problem : IsProblem p
   pub counts : Each p.files (λ f. (1 ≤ f) × (f ≤ 1000))
   pub corners : HasCorners p
-  pub still : IsStill p
+  pub still : IsStill p ⊎ ((p.version ≡ version1) × HasNoCorners p)
   pub moving : IsMoving p
 
 -- what a problem keeps
 pub record IsValidProblem (p : Problem) : Type 0 where
-  pub version : p.version ≡ version1
   pub ranks : HasRanks p
   pub shape : HasProblemShape p
   pub limits : EachSupport 1 p.files p.supports (λ i f s. Each (take f s) IsWithinProblem × Each (drop f s) IsWithinCorners)

@@ -1,4 +1,5 @@
 use thiserror::Error;
+use wide_int::OutOfMemory;
 
 /// Why points make no lift file or no problem. Supports and positions count from 1.
 #[derive(Clone, Copy, Debug, PartialEq, Eq, Error)]
@@ -19,4 +20,15 @@ pub enum ShapeFault {
     /// There was no memory.
     #[error("out of memory")]
     OutOfMemory,
+}
+
+impl From<OutOfMemory> for ShapeFault {
+    ghost use Rattle.cayley.specs.declared.faults.ShapeFault.TheVariants.{OutOfMemory as no_memory};
+    ghost use Rattle.std.specs.Prelude.{◌≡◌};
+
+    ghost from_gives = { λ _ e. e ≡ no_memory };
+
+    fn from(_fault: OutOfMemory) -> ShapeFault {
+        ShapeFault::OutOfMemory
+    }
 }

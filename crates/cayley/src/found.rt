@@ -1,6 +1,6 @@
 use crate::cells::Cell;
 use int_vectors::IntVec;
-use wide_int::Frac;
+use lex_height::Lex;
 
 /// The normal of a cell at one time: the vector `v` over `den`, which is at least 1.
 #[derive(Debug, Drop)]
@@ -28,7 +28,7 @@ pub struct Place {
 #[derive(Drop)]
 pub struct TieProof {
     pub cell: Cell,
-    pub time: Frac,
+    pub time: Lex,
     pub first: Place,
     /// `None` where `first` is level at all times.
     pub second: Option<Place>,
@@ -46,5 +46,5 @@ pub enum Sign {
 #[derive(Clone, Copy, Debug, PartialEq, Eq)]
 pub enum Begin {
     Start,
-    At(Frac),
+    At(Lex),
 }

@@ -1,9 +1,24 @@
 ghost use Rattle.std.specs.Prelude.{◌≡◌, ◌≤◌, ◌↔◌, IsTrue, unsigned_abs};
 ghost use Rattle.int_vectors.specs.Vectors.{Each};
-ghost use Rattle.cayley.specs.Stored.{file_point, point};
-ghost use Rattle.cayley.specs.Valid.{IsCornerBase, IsStart, IsWithinCorners, IsWithinFile, IsWithinProblem};
+ghost use Rattle.cayley.specs.Stored.{file_point, held, point};
+ghost use Rattle.cayley.specs.Valid.{IsCornerBase, IsHeight, IsStart, IsWithinCorners, IsWithinFile};
 
 use crate::points::{FilePoint, Point};
+
+/// The greatest dimension.
+pub const DIMENSIONS: usize = 16;
+
+/// The greatest number of points of a support of a file.
+pub const POINTS: usize = 1_000;
+
+/// The greatest absolute value of a coordinate of a file point.
+pub const COORDINATE: u128 = 1_000_000;
+
+/// The greatest absolute value of a height.
+pub const HEIGHT: u64 = 1_000_000_000;
+
+/// The greatest absolute value of a coordinate of a corner.
+pub const CORNER: u128 = 33_000_000;
 
 // Whether no coordinate has an absolute value above `most`.
 pub(crate) fn are_within(coords: &[i128], most: u128) -> bool
@@ -19,9 +34,9 @@ pub(crate) fn is_within_file(x: &FilePoint) -> bool
     are_within(x.coords.as_slice(), 1_000_000) && x.height.unsigned_abs() <= 1_000_000_000
 }
 
-/// Whether the numbers of a file point of a problem are within their limits.
-pub(crate) fn is_within_problem(x: &Point) -> bool
-    ensures { IsTrue result ↔ IsWithinProblem (point x.now) }
+/// Whether the numbers of a file point of a problem that rests are within their limits.
+pub(crate) fn is_within_resting(x: &Point) -> bool
+    ensures { IsTrue result ↔ IsWithinFile (held (point x.now)) }
 {
     are_within(x.coords.as_slice(), 1_000_000) && x.base.unsigned_abs() <= 1_000_000_000
 }

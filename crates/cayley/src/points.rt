@@ -8,14 +8,13 @@ pub struct FilePoint {
     pub height: i64,
 }
 
-/// A point of a problem. Its height at time t is `base + speed * t`; the speed is 0 for a file
-/// point and 1 for a corner.
+/// A point of a problem. Its height at time t is `base + speed * t`; the speed is 1 for a corner.
 #[derive(Debug, Drop)]
 pub struct Point {
     /// As many numbers as the problem's dimension.
     pub coords: IntVec,
     pub base: i64,
-    pub speed: u8,
+    pub speed: i64,
 }
 
 /// The points of one support. The first `file` of them are file points, the others corners.

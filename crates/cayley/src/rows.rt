@@ -1,4 +1,4 @@
-ghost use Rattle.std.specs.Prelude.{◌≡◌, ◌+◌, ◌<◌, ◌≤◌, ◌++◌, ◌∷◌, [], pos, ◌-ℤ◌, IfOk, OnOk, map, length};
+ghost use Rattle.std.specs.Prelude.{◌≡◌, ◌+◌, ◌<◌, ◌≤◌, ◌++◌, ◌∷◌, [], ◌-ℤ◌, IfOk, OnOk, map, length};
 ghost use Rattle.std.specs.List.{All};
 ghost use Rattle.wide_int.specs.Whole.{FitsWhole};
 ghost use Rattle.int_vectors.specs.Fits.{AllFit};
@@ -36,15 +36,8 @@ fn push_differences(row: &mut Vec<i128>, to: &[i128], from: &[i128]) -> Result<(
     Ok(())
 }
 
-fn base_difference(to: i64, from: i64) -> i128
+fn difference(to: i64, from: i64) -> i128
     ensures value { result ≡ to -ℤ from }
-    ensures fits { FitsWhole result }
-{
-    to as i128 - from as i128
-}
-
-fn speed_difference(to: u8, from: u8) -> i128
-    ensures value { result ≡ pos to -ℤ pos from }
     ensures fits { FitsWhole result }
 {
     to as i128 - from as i128
@@ -83,8 +76,8 @@ fn entries_of(
         return Err(OutOfMemory);
     };
     push_differences(&mut row, b.coords.as_slice(), a.coords.as_slice())?;
-    push(&mut row, base_difference(b.base, a.base))?;
-    push(&mut row, speed_difference(b.speed, a.speed))?;
+    push(&mut row, difference(b.base, a.base))?;
+    push(&mut row, difference(b.speed, a.speed))?;
     push_unit(&mut row, dim, place)?;
     Ok(row)
 }

@@ -2,6 +2,7 @@ ghost use Rattle.std.specs.Prelude.{◌≡◌, ◌≤◌, ◌-◌, ◌↔◌, Is
 ghost use Rattle.std.specs.List.{All};
 ghost use Rattle.std.specs.Option.{option_map};
 ghost use Rattle.cayley.specs.Stored.{file_point, file_of};
+ghost use Rattle.cayley.specs.Problems.{Version};
 ghost use Rattle.cayley.specs.Shapes.{IsFaulty, IsFileFault, IsFirstStart, IsOutside, IsSupportFault, IsPlaceFault, file_support};
 ghost use Rattle.int_vectors.specs.Vectors.{Each};
 ghost use Rattle.cayley.specs.Valid.{HasFileShape, IsStart, IsValidFile};
@@ -46,7 +47,7 @@ fn has_supports(dim: usize, supports: &[Vec<FilePoint>]) -> bool
 
 // Whether dimension, supports and start heights have the shape of a lift file.
 fn has_file_shape(dim: usize, supports: &[Vec<FilePoint>], starts: &Option<Vec<Vec<i64>>>) -> bool
-    ensures { IsTrue result ↔ HasFileShape (file_of dim (map (λ s. s.items) supports.now) (option_map (λ ss. map (λ s. s.items) ss.items) starts.now)) }
+    ensures { (version : Version) → IsTrue result ↔ HasFileShape (file_of version dim (map (λ s. s.items) supports.now) (option_map (λ ss. map (λ s. s.items) ss.items) starts.now)) }
 {
     has_supports(dim, supports) && have_starts(dim, starts)
 }
@@ -126,7 +127,7 @@ pub(crate) fn check_file(
     supports: &[Vec<FilePoint>],
     starts: &Option<Vec<Vec<i64>>>,
 ) -> Result<(), ShapeFault>
-    ensures { let given = file_of dim (map (λ s. s.items) supports.now) (option_map (λ ss. map (λ s. s.items) ss.items) starts.now) in
+    ensures { (version : Version) → let given = file_of version dim (map (λ s. s.items) supports.now) (option_map (λ ss. map (λ s. s.items) ss.items) starts.now) in
         MatchResult result (λ _. IsValidFile given) (IsFileFault given) }
 {
     if !has_file_shape(dim, supports, starts) {

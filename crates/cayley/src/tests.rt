@@ -5,7 +5,7 @@ use std::cmp::Ordering;
 use std::test::Fail;
 
 // The first square, and the corners of its path.
-const FIRST: [(&[i128], i64, u8); 7] = [
+const FIRST: [(&[i128], i64, i64); 7] = [
     (&[0, 0], 3, 0),
     (&[1, 0], 10, 0),
     (&[0, 1], 20, 0),
@@ -15,7 +15,7 @@ const FIRST: [(&[i128], i64, u8); 7] = [
     (&[0, 2], 100, 1),
 ];
 
-const SECOND: [(&[i128], i64, u8); 7] = [
+const SECOND: [(&[i128], i64, i64); 7] = [
     (&[0, 0], 5, 0),
     (&[1, 0], 40, 0),
     (&[0, 1], 9, 0),
@@ -37,7 +37,7 @@ fn file_points(alloc: Global, points: &[(&[i128], i64)]) -> Result<Vec<FilePoint
     Ok(made)
 }
 
-fn support(alloc: Global, given: &[(&[i128], i64, u8)], file: u32) -> Result<Support, Fail> {
+fn support(alloc: Global, given: &[(&[i128], i64, i64)], file: u32) -> Result<Support, Fail> {
     let mut points = Vec::new(alloc);
     for (coords, base, speed) in given {
         let coords = IntVec::from_slice(alloc, coords)?;
@@ -79,7 +79,7 @@ fn squares(alloc: Global, count: usize) -> Result<Result<Problem, ShapeFault>, F
 
 fn problem_fault(
     alloc: Global,
-    points: &[(&[i128], i64, u8)],
+    points: &[(&[i128], i64, i64)],
     file: u32,
 ) -> Result<Option<ShapeFault>, Fail> {
     let mut supports = Vec::new(alloc);
@@ -193,7 +193,7 @@ fn a_file_makes_a_plain_problem(rt: HostRuntime) -> Result<(), Fail> {
 
 #[test]
 fn faults_of_a_problem(rt: HostRuntime) -> Result<(), Fail> {
-    let table: [(&[(&[i128], i64, u8)], u32, Option<ShapeFault>); 8] = [
+    let table: [(&[(&[i128], i64, i64)], u32, Option<ShapeFault>); 8] = [
         (&[(&[5], 7, 0), (&[5], 0, 1), (&[6], 0, 1)], 1, None),
         (&[(&[5], 7, 1)], 1, Some(ShapeFault::BadShape)),
         (&[(&[5], 7, 0), (&[5], 0, 1)], 1, Some(ShapeFault::BadShape)),

@@ -9,7 +9,7 @@ use Rattle.int_vectors.specs.Vectors.{Each}
 use Rattle.int_vectors.proofs.BoundRows.{within_weaker}
 use Rattle.cayley.specs.Problems.{Point, Problem}
 use Rattle.cayley.specs.Reaches.{IsWithinReach, IsStoredReach}
-use Rattle.cayley.specs.Stored.{point, problem_of}
+use Rattle.cayley.specs.Stored.{point, unranked_of}
 use Rattle.cayley.specs.Valid.{IsCoordinate, IsCornerCoordinate}
 use Rattle.cayley.specs.declared.points.Point.{Point as StoredPoint}
 use Rattle.cayley.specs.declared.points.Support.{Support}
@@ -30,7 +30,7 @@ point_more v w x h k = within_weaker v w x.coords h k
 pub support_more : (v w : ℕ) (s : Support) → v ≤ w → IsStoredReach v s → IsStoredReach w s
 support_more v w s h k = λ j d l. within_weaker v w (get_or s.points.items j d).coords h (k j d l)
 
-pub reach_of : (r dim : ℕ) (supports : List Support) → All (IsStoredReach r) supports → IsWithinReach r (problem_of dim supports)
+pub reach_of : (r dim : ℕ) (supports : List Support) → All (IsStoredReach r) supports → IsWithinReach r (unranked_of dim supports)
 reach_of r dim supports h = each_map (λ (s : Support). map point s.points.items) (λ s. Each s (λ (x : Point). Within r x.coordinates)) supports (one supports (each_all (IsStoredReach r) supports h))
   where
     one : (ss : List Support) → Each ss (IsStoredReach r) → Each ss (λ (s : Support). Each (map point s.points.items) (λ (x : Point). Within r x.coordinates))

@@ -5,7 +5,7 @@ use Rattle.std.specs.List.{All}
 use Rattle.int_vectors.specs.Vectors.{Each}
 use Rattle.cayley.specs.declared.points.Point.{Point as StoredPoint}
 use Rattle.cayley.specs.declared.points.Support.{Support}
-use Rattle.cayley.specs.Stored.{point, problem_of}
+use Rattle.cayley.specs.Stored.{point, unranked_of}
 use Rattle.cayley.specs.Problems.{Point, Problem, EachSupport, HasCorners}
 use Rattle.cayley.specs.Valid.{IsCoordinate, IsCornerCoordinate, IsWithinProblem, IsWithinCorners, IsValidProblem}
 use Rattle.cayley.proofs.Lists.Each.{all_each, each_append, each_both, each_unmap, each_weaker}
@@ -83,9 +83,9 @@ valid_points p v = join p.supports v.shape.problem.points (small_supports 1 p.fi
     join (s ∷ ss) f g = (each_both _ _ s f.0 g.0, join ss f.1 g.1)
 
 -- the same of the points as they are stored
-pub stored_points : (dimension : ℕ) (supports : List Support) → IsValidProblem (problem_of dimension supports)
+pub stored_points : (dimension : ℕ) (supports : List Support) → IsValidProblem (unranked_of dimension supports)
     → All (λ (s : Support). All (λ (x : StoredPoint). (length x.coords ≡ dimension) × Each x.coords IsCornerCoordinate) s.points.items) supports
 stored_points dimension supports v = λ k d l.
     all_each _ (slice_index_or supports k d).points.items
     (each_unmap point _ (slice_index_or supports k d).points.items
-    (all_each _ supports (each_unmap (λ (s : Support). map point s.points.items) _ supports (valid_points (problem_of dimension supports) v)) k d l))
+    (all_each _ supports (each_unmap (λ (s : Support). map point s.points.items) _ supports (valid_points (unranked_of dimension supports) v)) k d l))

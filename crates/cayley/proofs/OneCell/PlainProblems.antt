@@ -1,13 +1,16 @@
 -- the problem of a file's points alone keeps what problems keep
 use Rattle.std.proofs.Common.{◌≡◌, ℕ, suc, ◌≤◌, List, [], ◌∷◌, length, map, take, drop, arith, refl, ap, sym, ◌∙◌, subst, inl}
 use Rattle.std.proofs.lemmas.List.{length-map, take_all, drop_all}
-use Rattle.std.proofs.Math.IntN.{pos}
+use Rattle.std.proofs.Math.IntN.{pos, ◌+ℤ◌}
 use Rattle.int_vectors.specs.Vectors.{Each}
-use Rattle.cayley.specs.Problems.{version1, Point, Problem, EachSupport, with_rank, ranked_supports}
+use Rattle.std.proofs.lemmas.Int.{ints}
+use Rattle.cayley.specs.Problems.{Version, version1, Point, Problem, EachSupport, IsStill, with_rank, ranked_supports, unperturbed}
 use Rattle.cayley.specs.Files.{FilePoint, File, resting, plain_problem}
 use Rattle.cayley.specs.declared.points.FilePoint.{FilePoint as StoredFilePoint}
 use Rattle.cayley.specs.Stored.{file_point}
-use Rattle.cayley.specs.Valid.{IsValidFile, IsValidProblem, AreDistinct, IsWithinFile, IsWithinProblem, IsWithinCorners}
+use Rattle.cayley.specs.Valid.{IsHeight, IsValidFile, IsValidProblem, AreDistinct, IsWithinFile, IsWithinProblem, IsWithinCorners}
+use Rattle.cayley.proofs.Ranking.Unranked.{unranked_ranked}
+use Rattle.cayley.proofs.Ranking.RankedProblems.{ranked_valid}
 use Rattle.cayley.proofs.Lists.Each.{map_map, map_same, each_map, each_weaker, each_unmap}
 
 abbrev pub resting_all : List (List FilePoint) → List (List Point)
@@ -20,10 +23,11 @@ unranked supports = map_map (map (with_rank 0)) (map resting) supports
 abbrev pub plain_of : ℕ → List (List FilePoint) → Problem
 plain_of dimension supports = record { version = version1; dimension = dimension; files = map length supports; supports = resting_all supports }
 
-pub plain_is : (file : File) → file.version ≡ version1 → plain_of file.dimension file.supports ≡ plain_problem file
-plain_is file e =
-    ap (λ (ss : List (List Point)). record { version = version1; dimension = file.dimension; files = map length file.supports; supports = ss }) (sym (unranked file.supports))
-    ∙ ap (λ v. record { version = v; dimension = file.dimension; files = map length file.supports; supports = ranked_supports v (map length file.supports) (resting_all file.supports) }) (sym e)
+-- the problem of the file's points without ranks
+pub plain_unperturbed : (file : File) → unperturbed (plain_problem file) ≡ plain_of file.dimension file.supports
+plain_unperturbed file =
+    ap (λ (ss : List (List Point)). record (plain_of file.dimension file.supports) { supports = ss })
+    (unranked_ranked file.version (map length file.supports) (resting_all file.supports) ∙ unranked file.supports)
 
 -- a property of each support of the file, carried to the problem
 by_support : (Q : List FilePoint → Type 0) (P : ℕ → ℕ → List Point → Type 0) → ((i : ℕ) (s : List FilePoint) → Q s → P i (length s) (map resting s))
@@ -53,9 +57,11 @@ distinct s h =
     ∙ map_map (λ (x : Point). x.coordinates) resting s in
     subst AreDistinct (sym e) h
 
-pub plain_valid : (file : File) → IsValidFile file → IsValidProblem (plain_of file.dimension file.supports)
-plain_valid file v = record {
-  version = refl;
+pub plain_still : (file : File) → IsStill (plain_of file.dimension file.supports)
+plain_still file = by_support (λ s. Unit {0}) _ (λ i s u. whole _ (λ x. Unit {0}) s (still s)) 1 file.supports (any file.supports)
+
+unranked_valid : (file : File) → IsValidFile file → IsValidProblem (plain_of file.dimension file.supports)
+unranked_valid file v = record {
   ranks = sym (unranked file.supports);
   shape = record {
     dimension = v.shape.dimension;
@@ -65,12 +71,20 @@ plain_valid file v = record {
     };
     counts = each_map length _ file.supports v.shape.counts;
     corners = inl (by_support (λ s. Unit {0}) _ (λ i s u. length-map s resting) 1 file.supports (any file.supports));
-    still = by_support (λ s. Unit {0}) _ (λ i s u. whole _ (λ x. Unit {0}) s (still s)) 1 file.supports (any file.supports);
+    still = inl (plain_still file);
     moving = by_support (λ s. Unit {0}) _ (λ i s u. none (λ x. Unit {0}) _ s) 1 file.supports (any file.supports);
   };
-  limits = by_support (λ s. Each s IsWithinFile) _ (λ i s h. (whole IsWithinProblem IsWithinCorners s h, none IsWithinProblem IsWithinCorners s)) 1 file.supports v.limits;
+  limits = by_support (λ s. Each s IsWithinFile) _ (λ i s h. (whole IsWithinProblem IsWithinCorners s (each_weaker IsWithinFile _ s (λ x w. within x w) h), none IsWithinProblem IsWithinCorners s)) 1 file.supports v.limits;
   distinct = by_support (λ s. AreDistinct (map (λ (x : FilePoint). x.coordinates) s)) _ (λ i s h. distinct s h) 1 file.supports v.distinct;
 }
+  where
+    within : (x : FilePoint) → IsWithinFile x → IsWithinProblem (resting x)
+    within x w = let e : x.height ≡ x.height +ℤ pos 0 = omega (arith, ints) in (w.0, w.1, subst IsHeight e w.1)
+
+-- in each version
+pub plain_valid : (file : File) → IsValidFile file → IsValidProblem (plain_problem file)
+plain_valid file v =
+    ranked_valid version1 file.version file.dimension (map length file.supports) (resting_all file.supports) (unranked_valid file v) (plain_still file)
 
 -- from the points as they are stored
 module _ {X : Type 0} (items : X → List StoredFilePoint) (stored : List X) (supports : List (List FilePoint)) (is : map (λ s. map file_point (items s)) stored ≡ supports) where
@@ -86,7 +100,7 @@ module _ {X : Type 0} (items : X → List StoredFilePoint) (stored : List X) (su
   points_of = map_same (λ s. map (λ x. resting (file_point x)) (items s)) (λ s. map resting (map file_point (items s))) (λ s. sym (map_map resting file_point (items s))) stored
       ∙ sym (map_map (map resting) (λ s. map file_point (items s)) stored) ∙ ap resting_all is
 
-pub alike : {d d' : ℕ} {fs fs' : List ℕ} {ss ss' : List (List Point)} → d ≡ d' → fs ≡ fs' → ss ≡ ss'
-    → let made : Problem = record { version = version1; dimension = d; files = fs; supports = ss } in
-    let other : Problem = record { version = version1; dimension = d'; files = fs'; supports = ss' } in made ≡ other
-alike p q r = λ i. record { version = version1; dimension = p i; files = q i; supports = r i }
+pub alike : {v v' : Version} {d d' : ℕ} {fs fs' : List ℕ} {ss ss' : List (List Point)} → v ≡ v' → d ≡ d' → fs ≡ fs' → ss ≡ ss'
+    → let made : Problem = record { version = v; dimension = d; files = fs; supports = ranked_supports v fs ss } in
+    let other : Problem = record { version = v'; dimension = d'; files = fs'; supports = ranked_supports v' fs' ss' } in made ≡ other
+alike o p q r = λ i. record { version = o i; dimension = p i; files = q i; supports = ranked_supports (o i) (q i) (r i) }

@@ -6,7 +6,6 @@ use Rattle.std.proofs.lemmas.List.{length-map}
 use Rattle.cayley.specs.declared.faults.ShapeFault.{ShapeFault}
 use Rattle.cayley.specs.declared.faults.ShapeFault.TheVariants.{BadShape, Repeated, Range, StartRange, OutOfMemory}
 use Rattle.cayley.specs.Files.{FilePoint, File}
-use Rattle.cayley.specs.Problems.{version1}
 use Rattle.int_vectors.specs.Vectors.{Each}
 use Rattle.cayley.specs.Shapes.{IsRepeat, IsOutside, IsFaulty, IsFirst, IsFirstStart, IsFileFault, IsPlaceFault, IsSupportFault, file_point_at, file_support}
 use Rattle.cayley.specs.Valid.{IsStart, IsWithinFile, AreDistinct, HasFileShape, IsValidFile}
@@ -96,9 +95,8 @@ module _ (file : File) (points : List (List FilePoint)) (same : points ≡ file.
     pub start_fault : (i : ℕ) → MatchOption file.starts ⊥ (λ starts. IsFirstStart starts i) → IsFileFault file (StartRange i)
     start_fault i h = (shape, none, h)
 
-    pub file_valid : file.version ≡ version1 → MatchOption file.starts (Unit {0}) (λ starts. Each starts (λ s. Each s IsStart)) → IsValidFile file
-    file_valid v h = record {
-      version = v;
+    pub file_valid : MatchOption file.starts (Unit {0}) (λ starts. Each starts (λ s. Each s IsStart)) → IsValidFile file
+    file_valid h = record {
       shape = shape;
       limits = by_supports _ file.supports (λ j l. sound_within (file_support file.supports j) (λ q. none j q l));
       distinct = by_supports _ file.supports (λ j l. sound_distinct (file_support file.supports j) (λ q. none j q l));

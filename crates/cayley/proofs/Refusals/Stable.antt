@@ -1,12 +1,12 @@
 -- limits are tests: what can't be refuted holds
 use Rattle.std.proofs.Common.{ℕ, ◌≤◌, List, [], ◌∷◌, arith, inl, inr}
-use Rattle.std.specs.Prelude.{ℤ, pos, negsuc, unsigned_abs}
+use Rattle.std.specs.Prelude.{ℤ, pos, negsuc, ◌+ℤ◌, unsigned_abs}
 use Rattle.std.proofs.lemmas.Bool.{cases_lt}
 use Rattle.std.proofs.lemmas.Int.{ints}
 use Rattle.int_vectors.specs.Vectors.{Each}
 use Rattle.cayley.specs.Files.{FilePoint}
 use Rattle.cayley.specs.Problems.{Point}
-use Rattle.cayley.specs.Valid.{IsWithinFile, IsWithinCorners, IsCornerBase}
+use Rattle.cayley.specs.Valid.{IsWithinFile, IsWithinProblem, IsWithinCorners, IsCornerBase}
 
 pub le_stable : (a b : ℕ) → ¬ (¬ (a ≤ b)) → a ≤ b
 le_stable a b h = elim (cases_lt b a) [ inl p ↦ absurd (h (λ q. omega arith)) | inr p ↦ p ]
@@ -18,6 +18,13 @@ each_stable P f (x ∷ xs) h = (f x (λ n. h (λ e. n e.0)), each_stable P f xs 
 pub within_stable : (x : FilePoint) → ¬ (¬ (IsWithinFile x)) → IsWithinFile x
 within_stable x h =
     (each_stable _ (λ z n. le_stable (unsigned_abs z) 1000000 n) x.coordinates (λ n. h (λ w. n w.0)), le_stable (unsigned_abs x.height) 1000000000 (λ n. h (λ w. n w.1)))
+
+pub problem_stable : (x : Point) → ¬ (¬ (IsWithinProblem x)) → IsWithinProblem x
+problem_stable x h = (
+  each_stable _ (λ z n. le_stable (unsigned_abs z) 1000000 n) x.coordinates (λ n. h (λ w. n w.0)),
+  le_stable (unsigned_abs x.base) 1000000000 (λ n. h (λ w. n w.1)),
+  le_stable (unsigned_abs (x.base +ℤ x.speed)) 1000000000 (λ n. h (λ w. n w.2)),
+)
 
 base_stable : (z : ℤ) → ¬ (¬ (IsCornerBase z)) → IsCornerBase z
 base_stable (pos n) h =

@@ -1,6 +1,7 @@
 -- the faults of one support of a problem: of its file points, then of its corners
-use Rattle.std.proofs.Common.{◌≡◌, ℕ, ◌+◌, ◌-◌, ◌<◌, ◌≤◌, List, length, map, take, drop, arith, refl, sym, ◌∙◌, subst, inl, inr, length-take-le, length-drop}
-use Rattle.std.specs.Prelude.{slice_index_or}
+use Rattle.std.proofs.Common.{◌≡◌, ℕ, ◌+◌, ◌-◌, ◌<◌, ◌≤◌, List, length, map, take, drop, arith, refl, ap, sym, ◌∙◌, subst, inl, inr, length-take-le, length-drop}
+use Rattle.std.specs.Prelude.{pos, ◌+ℤ◌, slice_index_or}
+use Rattle.std.proofs.lemmas.Int.{ints}
 use Rattle.std.proofs.lemmas.Bool.{cases_lt}
 use Rattle.std.proofs.lemmas.List.{length-map}
 use Rattle.int_vectors.specs.Vectors.{Each}
@@ -10,10 +11,10 @@ use Rattle.cayley.specs.Files.{FilePoint}
 use Rattle.cayley.specs.Problems.{Point, origin, point_at}
 use Rattle.cayley.specs.Shapes.{IsRepeat, IsOutside, IsFaulty, IsOutsideOf, IsFaultyOf, IsFirstCorner, IsSupportFault, file_point_at}
 use Rattle.cayley.specs.Stored.{held}
-use Rattle.cayley.specs.Valid.{IsWithinFile, IsWithinCorners}
+use Rattle.cayley.specs.Valid.{IsHeight, IsWithinFile, IsWithinProblem, IsWithinCorners}
 use Rattle.cayley.proofs.Lists.Each.{all_each, map_at, map_map, read_take, read_drop, same_read}
 
-module _ (f : ℕ) (s : List Point) (long : f ≤ length s) where
+module _ (f : ℕ) (s : List Point) (long : f ≤ length s) (rest : Each (take f s) (λ (x : Point). x.speed ≡ pos 0)) where
   abbrev pub files : List FilePoint
   files = map held (take f s)
 
@@ -34,14 +35,24 @@ module _ (f : ℕ) (s : List Point) (long : f ≤ length s) where
   coordinates : map (λ (x : FilePoint). x.coordinates) files ≡ map (λ (x : Point). x.coordinates) (take f s)
   coordinates = map_map (λ (x : FilePoint). x.coordinates) held (take f s)
 
+  -- a point that rests has one height
+  within_held : (q : ℕ) → 1 ≤ q → q ≤ f → IsWithinFile (held (point_at s q)) → IsWithinProblem (point_at s q)
+  within_held q a b w =
+      let l = length-take-le f s long in
+      let r = all_each (λ (x : Point). x.speed ≡ pos 0) (take f s) rest (q - 1) origin (omega arith) in
+      let e = read_take s f (q - 1) origin (omega arith) in
+      let z : (point_at s q).speed ≡ pos 0 = ap (λ (x : Point). x.speed) (sym e) ∙ r in
+      let h : (point_at s q).base ≡ (point_at s q).base +ℤ (point_at s q).speed = omega (arith, ints, z) in
+      (w.0, w.1, subst IsHeight h w.1)
+
   out_to : (q : ℕ) → IsOutside files q → IsOutsideOf f s q
   out_to q o =
       let a = o.0.0 in
       let b : q ≤ f = (let m = o.0.1 in omega (arith, count)) in
-      inl (a, b, (λ w. o.1 (subst IsWithinFile (sym (at_file q a b)) w)))
+      inl (a, b, (λ w. o.1 (subst IsWithinFile (sym (at_file q a b)) (w.0, w.1))))
 
   out_from : (q : ℕ) → q ≤ f → IsOutsideOf f s q → IsOutside files q
-  out_from q b (inl o) = ((o.0, (let m = o.1 in omega (arith, count))), (λ w. o.2 (subst IsWithinFile (at_file q o.0 b) w)))
+  out_from q b (inl o) = ((o.0, (let m = o.1 in omega (arith, count))), (λ w. o.2 (within_held q o.0 b (subst IsWithinFile (at_file q o.0 b) w))))
   out_from q b (inr o) = absurd (let a = o.0 in omega arith)
 
   faulty_to : (q : ℕ) → IsFaulty files q → IsFaultyOf f s q

@@ -10,7 +10,7 @@ use Rattle.cayley.proofs.Lists.Each.{not_false, not_true, no_both}
 
 pub returns-in-Ok-false : goal.returns-in-Ok-false
 returns-in-Ok-false c =
-    let w : IsWithinFile (held (point c.index-points-k.result)) = c.is_within_problem.ensures.0 c.if-not-is_within_problem.false in
+    let w : IsWithinFile (held (point c.index-points-k.result)) = c.is_within_resting.ensures.0 c.if-not-is_within_resting.false in
     let there : IsTrue (contains key_cmp c.loop-k.seen c.as_slice.result) = not_false _ (sym c.in-Ok-false.ensures.added ∙ c.in-Ok-false.field-0-test) in
     let r = (c.loop-k.invariant.seen c.as_slice.result).0 there in (
       refl,
@@ -21,7 +21,7 @@ returns-in-Ok-false c =
 
 pub loop-k-preserved : goal.loop-k-preserved
 loop-k-preserved c =
-    let w : IsWithinFile (held (point c.index-points-k.result)) = c.is_within_problem.ensures.0 c.if-not-is_within_problem.false in
+    let w : IsWithinFile (held (point c.index-points-k.result)) = c.is_within_resting.ensures.0 c.if-not-is_within_resting.false in
     let new : contains key_cmp c.loop-k.seen c.as_slice.result ≡ false = not_true _ (sym c.in-Ok-true.ensures.added ∙ c.in-Ok-true.field-0-test) in
     record {
       sound = sound_more (λ x. held (point x)) c.args.points.now c.loop-k.k c.index-points-k.result c.index-points-k.is c.loop-k-test.true w

@@ -1,7 +1,7 @@
 use Rattle.std.proofs.Common.{◌≤◌, ◌↔◌, List, subst}
 use Rattle.std.specs.Prelude.{IsTrue, ℤ, unsigned_abs}
 use Rattle.int_vectors.specs.Vectors.{Each}
-use Rattle.cayley.proofs.limits.is_within_problem.Goals as goal
+use Rattle.cayley.proofs.limits.is_within_resting.Goals as goal
 
 pub returns-else-are_within : goal.returns-else-are_within
 returns-else-are_within c =
