@@ -1,4 +1,5 @@
-use Rattle.std.proofs.Common.{rules, ◌≡◌, ◌≢◌, [], ◌∙◌, sym}
+use Rattle.std.proofs.Common.{rules, ◌≡◌, ◌≢◌, [], ◌∙◌, length, sym}
+use Rattle.std.proofs.lemmas.List.{nil_from_length}
 use Rattle.std.proofs.lemmas.Result.{err_from_is_err_and}
 use Rattle.cone_walls.proofs.Fining.{with_nothing, with_none, no_inverse, no_circuit, with_parts}
 use Rattle.cone_walls.proofs.fines.with_fines.Goals as goal
@@ -11,7 +12,8 @@ returns-then-version-eq1 c =
 pub returns-then-is_empty : goal.returns-then-is_empty
 returns-then-is_empty c =
     let r = c.requires in
-    let e : c.args.lines.items ≡ [] = search rules in
+    let z : length c.args.lines.items ≡ 0 = search rules in
+    let e : c.args.lines.items ≡ [] = nil_from_length c.args.lines.items z in
     with_none c.args.problem.now c.args.cell.now c.dim-dim.ensures.valid c.args.eliminated.now r.cell c.args.lines.items r.places r.points e r.fit
 
 pub refine_all-requires-clause-inverse : goal.refine_all-requires-clause-inverse
