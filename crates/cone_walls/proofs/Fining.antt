@@ -257,9 +257,11 @@ module _ (p : Problem) (cell : Cell) (valid : IsValidProblem p) (rows : List (Li
 
     each_circuits : FitsInverse rows → Each lines (FitsCircuitOf p cell (inverse_of rows)) → FitsCircuits p cell rows
     each_circuits f h v j c e =
-        let w : j ≡ suc j - 1 = omega arith in
-        (f, subst (λ z. FitsCoefficients z (inverse_of rows) (difference p cell z c)) (sym w)
-        (each_has (λ k d. FitsCoefficients (k - 1) (inverse_of rows) (difference p cell (k - 1) d)) lines (suc j) c h ((listed.1 (suc j) c).1 (omega arith, subst (λ z. IsFurtherAt p cell z c) w e))))
+        let w : j ≡ suc j - 1 = omega arith in (
+          f,
+          subst (λ z. FitsCoefficients z (inverse_of rows) (difference p cell z c)) (sym w)
+              (each_has (λ k d. FitsCoefficients (k - 1) (inverse_of rows) (difference p cell (k - 1) d)) lines (suc j) c h ((listed.1 (suc j) c).1 (omega arith, subst (λ z. IsFurtherAt p cell z c) w e))),
+        )
 
     -- version 1
     pub with_nothing : version_number p.version ≡ 1 → Each lines (λ l. l.fine ≡ []) → All FitsLine lines

@@ -185,10 +185,11 @@ tell_sides_at p cell lines h P Q positive v n =
 module _ (p : Problem) (cell : Cell) (m : MovingNormal) where
   coarse_of : (l : WallLine) → IsLineOf p cell m l → IsLineOf (unperturbed p) cell m (coarse l)
   coarse_of l h =
-      let j = l.support - 1 in
-      (same_further p (unperturbed p) cell j l.position (same_unperturbed p) h.0,
-      subst (λ (y : Point). (l.alpha ≡ alpha m (point_at (support_at (unperturbed p).supports j) (pair_at cell j).0) y) × (l.beta ≡ beta m (point_at (support_at (unperturbed p).supports j) (pair_at cell j).0) y)) (read_point p j l.position)
-      (subst (λ (x : Point). (l.alpha ≡ alpha m x (with_rank 0 (point_at (support_at p.supports j) l.position))) × (l.beta ≡ beta m x (with_rank 0 (point_at (support_at p.supports j) l.position)))) (read_point p j (pair_at cell j).0) h.1))
+      let j = l.support - 1 in (
+        same_further p (unperturbed p) cell j l.position (same_unperturbed p) h.0,
+        subst (λ (y : Point). (l.alpha ≡ alpha m (point_at (support_at (unperturbed p).supports j) (pair_at cell j).0) y) × (l.beta ≡ beta m (point_at (support_at (unperturbed p).supports j) (pair_at cell j).0) y)) (read_point p j l.position)
+            (subst (λ (x : Point). (l.alpha ≡ alpha m x (with_rank 0 (point_at (support_at p.supports j) l.position))) × (l.beta ≡ beta m x (with_rank 0 (point_at (support_at p.supports j) l.position)))) (read_point p j (pair_at cell j).0) h.1),
+      )
 
   pub coarse_lines : (lines : List WallLine) → Each lines (IsLineOf p cell m) → Each (map coarse lines) (IsLineOf (unperturbed p) cell m)
   coarse_lines lines h = each_map coarse (IsLineOf (unperturbed p) cell m) lines (each_weaker (IsLineOf p cell m) (λ l. IsLineOf (unperturbed p) cell m (coarse l)) lines coarse_of h)
@@ -197,9 +198,11 @@ module _ (p : Problem) (cell : Cell) (m : MovingNormal) where
 module _ (p : Problem) (cell : Cell) (made : List (List ℤ)) where
   pub coarse_fine : (l : WallLine) → HasFine (unperturbed p) cell made (coarse l)
   coarse_fine l =
-      let j = l.support - 1 in
-      (tt, λ rank. subst (λ (s : List Point). pos 0 ≡ sum_of_rank (circuit_of (unperturbed p) cell made j l.position) (unperturbed p) cell (point_at s l.position) rank) (sym (support_unranked p.supports j))
-      (sym (sum_unranked (circuit_of (unperturbed p) cell made j l.position) p cell (support_at p.supports j) l.position rank)))
+      let j = l.support - 1 in (
+        tt,
+        λ rank. subst (λ (s : List Point). pos 0 ≡ sum_of_rank (circuit_of (unperturbed p) cell made j l.position) (unperturbed p) cell (point_at s l.position) rank) (sym (support_unranked p.supports j))
+            (sym (sum_unranked (circuit_of (unperturbed p) cell made j l.position) p cell (support_at p.supports j) l.position rank)),
+      )
 
   pub coarse_fines : (lines : List WallLine) → Each (map coarse lines) (HasFine (unperturbed p) cell made)
   coarse_fines [] = tt

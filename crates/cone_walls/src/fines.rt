@@ -171,9 +171,7 @@ fn parts_of(
     for (k, pair) in cell.pairs().iter().enumerate() {
         let i = k as u32 + 1;
         let both = numbers_at(numbers, i);
-        push_points(
-            &mut parts, problem, i, *pair, both, support, position, last,
-        )?;
+        push_points(&mut parts, problem, i, *pair, both, support, position, last)?;
     }
     Ok(parts)
 }

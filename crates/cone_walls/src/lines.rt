@@ -174,7 +174,9 @@ fn push_lines(
     ensures fit { All FitsLine lines.new.items }
 {
     match room {
-        Room::Narrow { copies } => push_narrow_lines(alloc, lines, problem, normal, copies, i, pair),
+        Room::Narrow { copies } => push_narrow_lines(
+            alloc, lines, problem, normal, copies, i, pair,
+        ),
         _ => push_other_lines(alloc, lines, problem, normal, room, i, pair),
     }
 }
@@ -208,7 +210,15 @@ fn lines_within(
     let _dim = problem.dim();
     let mut lines = Vec::with_capacity(alloc, further_points(problem))?;
     for (i, pair) in cell.pairs().iter().enumerate() {
-        push_lines(alloc, &mut lines, problem, normal, room, i as u32 + 1, *pair)?;
+        push_lines(
+            alloc,
+            &mut lines,
+            problem,
+            normal,
+            room,
+            i as u32 + 1,
+            *pair,
+        )?;
     }
     Ok(lines)
 }

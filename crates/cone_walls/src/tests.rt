@@ -245,7 +245,10 @@ fn lines_of_level_points(rt: HostRuntime) -> Result<(), Fail> {
     let answer = seen_of(rt.alloc(), &problem, &[(4, 5)])?;
     if let Some(Ok(seen)) = &answer {
         let all = numbers(rt.alloc(), &seen.walls.lines)?;
-        assert_eq!(rt; all.as_slice(), [1, 1, 0, -2, 1, 2, 0, -2, 1, 3, 0, -2].as_slice());
+        assert_eq!(rt;
+            all.as_slice(),
+            [1, 1, 0, -2, 1, 2, 0, -2, 1, 3, 0, -2].as_slice()
+        );
         let parts = fines(rt.alloc(), &seen.walls.lines)?;
         assert_eq!(rt; parts.as_slice(), [1, 1, 2, 2, 2, 2, 3, 3, 2].as_slice());
         let time = Lex::new(&[LexPart { rank: 3, num: 1 }], 1).unwrap();
@@ -265,7 +268,10 @@ fn lines_of_the_outer_points(rt: HostRuntime) -> Result<(), Fail> {
     let answer = seen_of(rt.alloc(), &problem, &[(1, 3)])?;
     if let Some(Ok(seen)) = &answer {
         let all = numbers(rt.alloc(), &seen.walls.lines)?;
-        assert_eq!(rt; all.as_slice(), [1, 2, 0, 0, 1, 4, 0, 2, 1, 5, 0, 2].as_slice());
+        assert_eq!(rt;
+            all.as_slice(),
+            [1, 2, 0, 0, 1, 4, 0, 2, 1, 5, 0, 2].as_slice()
+        );
         let parts = fines(rt.alloc(), &seen.walls.lines)?;
         assert_eq!(rt;
             parts.as_slice(),

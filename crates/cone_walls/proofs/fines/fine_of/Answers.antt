@@ -18,7 +18,8 @@ returns c =
     let e = c.in_ok-numbers.ensures in
     let d = c.den-last.ensures in
     let f : FitsSigned w128 c.den-last.result = search rules in
-    let s = c.as_slice-entries.ensures in
-    (e.value.0,
-    fine_is c.args.problem.now c.args.cell.now c.args.inverse.now (c.args.support - 1) c.args.position c.in_ok-numbers.numbers c.den-last.result c.from_vec.result e.valid c.requires.cell (omega (arith, a, b)) c.requires.point.2
-    e.value.1 (subst AllFit s.value s.fits) e.count e.last d.value d.fits (c.from_vec.ensures ∙ (simp to_z-of_z at c.in_ok-parts.ensures)))
+    let s = c.as_slice-entries.ensures in (
+      e.value.0,
+      fine_is c.args.problem.now c.args.cell.now c.args.inverse.now (c.args.support - 1) c.args.position c.in_ok-numbers.numbers c.den-last.result c.from_vec.result e.valid c.requires.cell (omega (arith, a, b)) c.requires.point.2
+          e.value.1 (subst AllFit s.value s.fits) e.count e.last d.value d.fits (c.from_vec.ensures ∙ (simp to_z-of_z at c.in_ok-parts.ensures)),
+    )
