@@ -12,6 +12,7 @@ use Rattle.crossing.specs.declared.line.WallLine.{WallLine}
 use Rattle.inner_normal.specs.declared.moving.MovingNormal.{MovingNormal}
 use Rattle.cone_walls.specs.Numbers.{alpha, beta}
 use Rattle.cone_walls.specs.Listed.{line_of, lines_from, wall_lines}
+use Rattle.cone_walls.specs.Parts.{IsFurtherLine}
 use Rattle.cone_walls.specs.Places.{IsEarlier, AreInOrder, HasLine, AreOfFurtherPoints, HasNumbers}
 
 -- ---- either way of a test
@@ -125,7 +126,7 @@ walls_ordered m i (s ∷ supports) (x ∷ cell) =
     (λ c l h n j. all_lines m (IsEarlier (line_of m i (point_at s x.0) c (slice_index_or s (c - 1) origin))) (suc i) supports cell (λ j k d e f. inl (omega (arith, e)))))
 
 -- ---- which points they are of
-each_has : (Q : ℕ → ℕ → Type 0) (lines : List WallLine) (j c : ℕ) → Each lines (λ l. Q l.support l.position) → HasLine lines j c → Q j c
+pub each_has : (Q : ℕ → ℕ → Type 0) (lines : List WallLine) (j c : ℕ) → Each lines (λ l. Q l.support l.position) → HasLine lines j c → Q j c
 each_has Q [] j c e h = absurd h
 each_has Q (l ∷ lines) j c e (inl h) = subst (λ z. Q z c) h.0 (subst (Q l.support) h.1 e.0)
 each_has Q (l ∷ lines) j c e (inr h) = each_has Q lines j c e.1 h
@@ -161,3 +162,28 @@ have_numbers m p cell =
     (alpha m (point_at (support_at p.supports j) (pair_at cell j).0) (point_at (support_at p.supports j) c) ≡ alpha m (point_at (support_at p.supports z) (pair_at cell z).0) (point_at (support_at p.supports z) c))
     × (beta m (point_at (support_at p.supports j) (pair_at cell j).0) (point_at (support_at p.supports j) c) ≡ beta m (point_at (support_at p.supports z) (pair_at cell z).0) (point_at (support_at p.supports z) c)))
     w (refl, refl))
+
+-- each of a further point
+pub are_further : (m : MovingNormal) (p : Problem) (cell : Cell) → Each (wall_lines m 1 p.supports cell) (λ l. IsFurtherAt p cell (l.support - 1) l.position)
+are_further m p cell =
+    all_lines m (λ l. IsFurtherAt p cell (l.support - 1) l.position) 1 p.supports cell
+    (λ j k c e f. let w : j ≡ k - 1 = omega (arith, e) in subst (λ z. IsFurtherAt p cell z c) w f)
+
+-- of a support of the problem
+inside : (supports : List (List Point)) (cell : Cell) (j c : ℕ) → IsFurther (support_at supports j) (pair_at cell j).0 (pair_at cell j).1 c → j < length supports
+inside [] cell j c h = let a = h.0 in let b = h.1 in absurd (omega (arith, a, b))
+inside (s ∷ supports) [] zero c h = omega arith
+inside (s ∷ supports) (x ∷ cell) zero c h = omega arith
+inside (s ∷ supports) [] (suc j) c h = let r = inside supports [] j c h in omega (arith, r)
+inside (s ∷ supports) (x ∷ cell) (suc j) c h = let r = inside supports cell j c h in omega (arith, r)
+
+pub further_lines : (m : MovingNormal) (p : Problem) (cell : Cell) → length p.supports ≡ p.dimension → Each (wall_lines m 1 p.supports cell) (IsFurtherLine p cell)
+further_lines m p cell n =
+    all_lines m (IsFurtherLine p cell) 1 p.supports cell
+    (λ j k c e f.
+    let w : j ≡ k - 1 = omega (arith, e) in
+    let l = inside p.supports cell j c f in
+    (omega (arith, e), omega (arith, e, l, n), subst (λ z. IsFurtherAt p cell z c) w f))
+
+pub no_parts : (m : MovingNormal) (p : Problem) (cell : Cell) → Each (wall_lines m 1 p.supports cell) (λ l. l.fine ≡ [])
+no_parts m p cell = all_lines m (λ l. l.fine ≡ []) 1 p.supports cell (λ j k c e f. refl)

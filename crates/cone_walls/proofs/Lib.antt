@@ -3,8 +3,11 @@ pub mod Pushing
 pub mod MovingFrame
 pub mod LineLists
 pub mod FurtherLines
+pub mod FineValues
+pub mod RisingRanks
+pub mod FineParts
+pub mod Fining
 pub mod Telling
-pub mod SomeMoment
 pub mod Living
 pub mod Outcomes
 pub mod Making

@@ -28,7 +28,7 @@ values_same t (p ∷ ps) (q ∷ qs) = ap (λ (l : List (List ℤ)). add ((t.over
 abbrev time_one : Time
 time_one = record { entries = pos 1 ∷ []; over = pos 1; positive = record { lt = tt } }
 
-line_entry : (l : Line) (t : Time) (e : ℕ) → at (line_at l t) e ≡ t.over *ℤ at l.start e +ℤ l.slope *ℤ at t.entries e
+pub line_entry : (l : Line) (t : Time) (e : ℕ) → at (line_at l t) e ≡ t.over *ℤ at l.start e +ℤ l.slope *ℤ at t.entries e
 line_entry l t e = at-add (scale t.over l.start) (scale l.slope t.entries) e ∙ ap₂ ◌+ℤ◌ (at-scale t.over l.start e) (at-scale l.slope t.entries e)
 
 -- a line that is zero at the times 0 and 1

@@ -14,7 +14,7 @@ use Rattle.inner_normal.proofs.Meaning.{reduced_of}
 use Rattle.inner_normal.specs.declared.moving.MovingNormal.{MovingNormal}
 use Rattle.inner_normal.specs.Workings.{denominator, FitsNormal, IsNormalFrom}
 use Rattle.reduced_rows.specs.Denominators.{shares}
-use Rattle.cone_walls.specs.Workings.{normal_of_rows, FitsWalls, FitsRest, FitsWallWorking}
+use Rattle.cone_walls.specs.Workings.{normal_of_rows, FitsWalls, FitsCircuits, FitsRest, FitsWallWorking}
 
 pub rest_fits : (p : Problem) (cell : Cell) (made : List (List ℤ)) → IsEliminated p.dimension (edge_rows p cell) made → FitsWallWorking p cell → FitsRest p cell made
 rest_fits p cell made e f = f.1 made e.1
@@ -36,8 +36,8 @@ pub normal_fits : (p : Problem) (cell : Cell) (made : List (List ℤ)) → IsPro
 normal_fits p cell made well of e r = subst (λ n. FitsNormal n made) (sym (made_count p cell made well of e)) r.0
 
 pub rest_from : (p : Problem) (cell : Cell) (made : List (List ℤ)) (m : MovingNormal) → IsProblem p → IsOf p cell → IsEliminated p.dimension (edge_rows p cell) made → IsNormalFrom made m → FitsNormal (length made) made → FitsWalls p cell m
-    → FitsRest p cell made
-rest_from p cell made m well of e h f w = (subst (λ n. FitsNormal n made) (made_count p cell made well of e) f, subst (FitsWalls p cell) (normal_is made m h) w)
+    → FitsCircuits p cell made → FitsRest p cell made
+rest_from p cell made m well of e h f w c = (subst (λ n. FitsNormal n made) (made_count p cell made well of e) f, subst (FitsWalls p cell) (normal_is made m h) w, c)
 
 pub walls_from : (p : Problem) (cell : Cell) (made : List (List ℤ)) (m : MovingNormal) → IsNormalFrom made m → FitsRest p cell made → FitsWalls p cell m
 walls_from p cell made m h r = subst (FitsWalls p cell) (sym (normal_is made m h)) r.1

@@ -1,7 +1,7 @@
 -- facts of a point of a problem, by its support and position
 use Rattle.std.proofs.Common.{◌≡◌, ℕ, ◌-◌, ◌≤◌, [], length, arith, sym, subst}
 use Rattle.int_vectors.specs.Vectors.{Each}
-use Rattle.cayley.specs.Problems.{Point, Problem, point_at}
+use Rattle.cayley.specs.Problems.{Point, Problem, point_at, with_rank}
 use Rattle.cayley.specs.Valid.{IsValidProblem, IsCornerCoordinate, support_at}
 use Rattle.cayley.proofs.OneCell.CellRows.{each_position}
 use Rattle.cayley.proofs.Lists.Each.{all_each}
@@ -10,7 +10,7 @@ use Rattle.cayley.proofs.Lists.Supports.{valid_points}
 abbrev pub IsNear : ℕ → Point → Type 0
 IsNear n x = (length x.coordinates ≡ n) × Each x.coordinates IsCornerCoordinate
 
-pub near_point : (p : Problem) → IsValidProblem p → (i position : ℕ) → 1 ≤ i → i ≤ p.dimension → 1 ≤ position → position ≤ length (support_at p i) → (x : Point) → x ≡ point_at (support_at p i) position → IsNear p.dimension x
+pub near_point : (p : Problem) → IsValidProblem p → (i position : ℕ) → 1 ≤ i → i ≤ p.dimension → 1 ≤ position → position ≤ length (support_at p i) → (x : Point) → x ≡ with_rank 0 (point_at (support_at p i) position) → IsNear p.dimension x
 near_point p valid i position least greatest first last x e =
     subst (IsNear p.dimension) (sym e)
     (each_position (IsNear p.dimension) (support_at p i) position first last

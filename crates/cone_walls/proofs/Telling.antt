@@ -1,72 +1,158 @@
--- the lines tell the sides of their points
-use Rattle.std.proofs.Common.{◌≡◌, ◌↔◌, inl, inr, ℕ, ◌-◌, List, [], ◌∷◌, map, arith, sym, ap, subst, ◌∙◌, ◌<ℤ◌}
+-- a line tells the side of its point at every time
+use Rattle.std.proofs.Common.{◌≡◌, ◌↔◌, inl, inr, ℕ, suc, ◌-◌, ◌<◌, ◌≤◌, List, [], ◌∷◌, length, map, arith, refl, sym, ap, ap₂, subst, ◌∙◌, ◌<ℤ◌}
 use Rattle.std.proofs.lemmas.Int.{ints}
 use Rattle.std.proofs.Math.IntN.{ℤ, pos, ◌+ℤ◌, ◌*ℤ◌, neg_ℤ}
-use Rattle.int_vectors.specs.Vectors.{IsZero, IsPositive, scale}
+use Rattle.wide_int.proofs.Order.{mul_cancel}
+use Rattle.int_vectors.specs.Vectors.{Each, IsZero, IsPositive, add, scale, at}
+use Rattle.reduced_rows.specs.CellRefusals.{IsEliminated}
+use Rattle.lex_height.specs.Entries.{entry}
+use Rattle.lex_height.specs.Values.{AreParts}
 use Rattle.cayley.specs.Times.{Time}
-use Rattle.cayley.specs.Problems.{Point, Problem, point_at, with_rank, unperturbed}
+use Rattle.cayley.specs.Problems.{Point, Problem, point_at, with_rank, unperturbed, HasSamePoints}
 use Rattle.cayley.specs.Cells.{Cell}
-use Rattle.cayley.specs.Dependencies.{support_at, pair_at, minus}
-use Rattle.cayley.specs.Normals.{Normal, gap, IsNormal}
-use Rattle.cayley.specs.Mixed.{IsAlive}
-use Rattle.cayley.proofs.Order.Lines.{Line, line_at, AllPositive}
-use Rattle.cayley.proofs.Lists.Each.{each_weaker}
-use Rattle.cayley.proofs.OneCell.MovingNormals.{lined_frame}
-use Rattle.cayley.proofs.OneCell.MovingWalls.{wall_above, wall_level, wall_below}
-use Rattle.cayley.proofs.OneCell.Unperturbed.{point_unranked, support_unranked, same_unperturbed, same_well, same_of, same_independent}
+use Rattle.cayley.specs.Rows.{edge_rows}
+use Rattle.cayley.specs.Dependencies.{Numbers, support_at, pair_at, IsFurtherAt, IsPositiveDependency, sum_at, minus}
+use Rattle.cayley.specs.Normals.{Normal, gap, IsNormal, IsAbove, IsLevel, IsBelow}
+use Rattle.cayley.proofs.Algebra.ScaledInverse.{at-add, at-scale}
+use Rattle.cayley.proofs.Algebra.RowNormals.{at-zero}
+use Rattle.cayley.proofs.Algebra.RowDependencies.{zero-at}
+use Rattle.cayley.proofs.Order.Lexicographic.{positive-same}
+use Rattle.cayley.proofs.Order.Lines.{Line, line_at}
+use Rattle.cayley.proofs.Lists.Each.{each_weaker, each_both, each_map, each_unmap}
+use Rattle.cayley.proofs.OneCell.CellRows.{InRange}
+use Rattle.cayley.proofs.OneCell.MovingNormals.{Moving, wall}
+use Rattle.cayley.proofs.OneCell.MovingWalls.{wall_is}
+use Rattle.cayley.proofs.OneCell.OneDependency.{sum_gap, dependency_law}
+use Rattle.cayley.proofs.OneCell.Unperturbed.{unranked, point_unranked, support_unranked, same_unperturbed, same_well, same_of, same_independent, same_further}
+use Rattle.cayley.proofs.Flipping.Places.{pairs_long, further_bound}
 use Rattle.crossing.specs.declared.line.WallLine.{WallLine}
-use Rattle.crossing.specs.Lines.{value_at}
+use Rattle.crossing.specs.Lines.{value}
+use Rattle.inner_normal.specs.Coefficients.{difference, coefficients_of, numbers_of}
+use Rattle.inner_normal.specs.Inverses.{Inverse, inverse_of, IsInverseOf}
 use Rattle.inner_normal.specs.declared.moving.MovingNormal.{MovingNormal}
 use Rattle.inner_normal.specs.MovingNormals.{IsMovingNormal}
-use Rattle.cone_walls.specs.Listed.{line_of, wall_lines}
-use Rattle.cone_walls.specs.Sides.{value, TellsSide, TellSides, moment, TellsSideAt, TellSidesAt}
-use Rattle.cone_walls.proofs.MovingFrame.{as_moving, long_normal, moving_frame}
-use Rattle.cone_walls.proofs.LineLists.{as_line, line_is, walls_are}
-use Rattle.cone_walls.proofs.FurtherLines.{all_lines}
+use Rattle.inner_normal.specs.Workings.{IsNormalFrom}
+use Rattle.inner_normal.proofs.Meaning.{numbers_however, numbers_last}
+use Rattle.cone_walls.specs.Listed.{line_of, coarse}
+use Rattle.cone_walls.specs.Numbers.{alpha, beta}
+use Rattle.cone_walls.specs.Fines.{circuit_of, sum_of_rank, HasFine}
+use Rattle.cone_walls.specs.Places.{HasNumbers}
+use Rattle.cone_walls.specs.Sides.{TellsSide, TellSides, moment, coarse_value, TellsSideAt, TellSidesAt}
+use Rattle.cone_walls.proofs.MovingFrame.{as_moving, long_normal, moving_frame, line_entry}
+use Rattle.cone_walls.proofs.LineLists.{as_line, line_is}
+use Rattle.cone_walls.proofs.FineValues.{sum_marked, sum_unranked, value_at}
 
--- the three signs of a line and of a gap agree
-abbrev Agree : List ℤ → List ℤ → Type 0
-Agree u g = (IsPositive u ↔ IsPositive g) × (IsZero u ↔ IsZero g) × (IsPositive (minus u) ↔ IsPositive (scale (neg_ℤ (pos 1)) g))
+pub read_point : (p : Problem) (j c : ℕ) → with_rank 0 (point_at (support_at p.supports j) c) ≡ point_at (support_at (unperturbed p).supports j) c
+read_point p j c = sym (point_unranked (support_at p.supports j) c) ∙ ap (λ (s : List Point). point_at s c) (sym (support_unranked p.supports j))
 
-module _ (p : Problem) (cell : Cell) (m : MovingNormal) (n : IsMovingNormal p cell m) where
-  agree : (t : Time) (v : Normal) → IsNormal (unperturbed p) cell t v → (k c : ℕ) (x y : Point) → Agree (value (line_of m k x c y) t) (gap t v (with_rank 0 x) (with_rank 0 y))
-  agree t v normal k c x y =
-      let u = unperturbed p in
-      let e = same_unperturbed p in
-      let well = same_well p u e n.problem in
-      let of = same_of p u cell e n.of in
-      let ind = same_independent p u cell e n.independent in
-      let frame = moving_frame p cell m n in
-      let a = with_rank 0 x in
-      let b = with_rank 0 y in
-      subst (λ (l : Line). Agree (line_at l t) (gap t v a b)) (sym (line_is m n.positive (long_normal p cell m n) k c x y))
-      (wall_above u cell well of ind (as_moving m n.positive (long_normal p cell m n)) frame a b t v normal, wall_level u cell well of ind (as_moving m n.positive (long_normal p cell m n)) frame a b t v normal, wall_below u cell well of ind (as_moving m n.positive (long_normal p cell m n)) frame a b t v normal)
+-- lists with the same entries have the same sign
+same_zero : (u w : List ℤ) → ((e : ℕ) → at u e ≡ at w e) → IsZero u → IsZero w
+same_zero u w f z = zero-at w (λ e. sym (f e) ∙ at-zero u e z)
 
-  read_point : (j c : ℕ) → with_rank 0 (point_at (support_at p.supports j) c) ≡ point_at (support_at (unperturbed p).supports j) c
-  read_point j c = sym (point_unranked (support_at p.supports j) c) ∙ ap (λ (s : List Point). point_at s c) (sym (support_unranked p.supports j))
+same_minus : (u w : List ℤ) → ((e : ℕ) → at u e ≡ at w e) → (e : ℕ) → at (minus u) e ≡ at (minus w) e
+same_minus u w f e = at-scale (neg_ℤ (pos 1)) u e ∙ ap (λ z. neg_ℤ (pos 1) *ℤ z) (f e) ∙ sym (at-scale (neg_ℤ (pos 1)) w e)
 
-  pub tell_sides : TellSides (unperturbed p) cell (wall_lines m 1 p.supports cell)
-  tell_sides t v normal =
-      all_lines m (TellsSide (unperturbed p) cell t v) 1 p.supports cell
-      (λ j k c e f.
-      let w : j ≡ k - 1 = omega (arith, e) in
-      let u = value (line_of m k (point_at (support_at p.supports j) (pair_at cell j).0) c (point_at (support_at p.supports j) c)) t in
-      subst (λ z. Agree u (gap t v (point_at (support_at (unperturbed p).supports z) (pair_at cell z).0) (point_at (support_at (unperturbed p).supports z) c))) w
-      (subst (λ (y : Point). Agree u (gap t v (point_at (support_at (unperturbed p).supports j) (pair_at cell j).0) y)) (read_point j c)
-      (subst (λ (x : Point). Agree u (gap t v x (with_rank 0 (point_at (support_at p.supports j) c)))) (read_point j (pair_at cell j).0)
-      (agree t v normal k c (point_at (support_at p.supports j) (pair_at cell j).0) (point_at (support_at p.supports j) c)))))
+-- a line of the further point c of support j tells its side
+abbrev Tells : Problem → Cell → Time → Normal → WallLine → ℕ → ℕ → Type 0
+Tells p cell t v l j c =
+    (IsPositive (value l t.entries t.over) ↔ IsAbove t v (support_at p.supports j) (pair_at cell j).0 c)
+    × (IsZero (value l t.entries t.over) ↔ IsLevel t v (support_at p.supports j) (pair_at cell j).0 c)
+    × (IsPositive (minus (value l t.entries t.over)) ↔ IsBelow t v (support_at p.supports j) (pair_at cell j).0 c)
 
-  -- alive exactly where all lines are positive
-  pub alive_lines : (t : Time) → IsAlive (unperturbed p) cell t ↔ AllPositive (map as_line (wall_lines m 1 p.supports cell)) t
-  unfolding lined_frame
-  alive_lines t =
-      let u = unperturbed p in
-      let e = same_unperturbed p in
-      let d = lined_frame u cell (same_well p u e n.problem) (same_of p u cell e n.of) (same_independent p u cell e n.independent) (as_moving m n.positive (long_normal p cell m n)) (moving_frame p cell m n) in
-      let w = walls_are m n.positive (long_normal p cell m n) 1 p.supports cell in
-      ((λ h. subst (λ ls. AllPositive ls t) (sym w) (d.to t h)), (λ h. d.from t (subst (λ ls. AllPositive ls t) w h)))
+-- ---- one line
+module _ (p : Problem) (cell : Cell) (m : MovingNormal) (n : IsMovingNormal p cell m) (made : List (List ℤ)) (done : IsEliminated p.dimension (edge_rows p cell) made) (from : IsNormalFrom made m)
+    (j c : ℕ) (further : IsFurtherAt p cell j c) where
+  abbrev u : Problem
+  u = unperturbed p
+
+  abbrev numbers : Numbers
+  numbers = circuit_of p cell made j c
+
+  bound : suc j ≤ length cell
+  bound = further_bound p.supports cell j c (pairs_long p.supports cell InRange n.of) further
+
+  below : j < p.dimension
+  below = let a = bound in let b = pairs_long p.supports cell InRange n.of in let e = n.problem.supports in omega (arith, a, b, e)
+
+  positive : pos 0 <ℤ (inverse_of made).den
+  positive = subst (λ z. pos 0 <ℤ z) from.over n.positive
+
+  dependency : (q : Problem) → HasSamePoints q p → IsPositiveDependency q cell j c numbers
+  dependency q same = numbers_however p cell j c n.problem n.of below further (inverse_of made) (made, done, refl) (coefficients_of j (inverse_of made) (difference p cell j c)) refl positive q same
+
+  last_is : numbers.last ≡ m.den
+  last_is = numbers_last p cell j c n.problem n.of below further (inverse_of made) (made, done, refl) (coefficients_of j (inverse_of made) (difference p cell j c)) refl ∙ sym from.over
+
+  -- without ranks the sum is the wall line of the laws
+  sum_wall : (t : Time) (e : ℕ) → at (sum_at t numbers u cell (point_at (support_at u.supports j) c)) e
+      ≡ at (line_at (wall (as_moving m n.positive (long_normal p cell m n)) (point_at (support_at u.supports j) (pair_at cell j).0) (point_at (support_at u.supports j) c)) t) e
+  sum_wall t e =
+      let same = same_unperturbed p in
+      let mv = as_moving m n.positive (long_normal p cell m n) in
+      let a = point_at (support_at u.supports j) (pair_at cell j).0 in
+      let x = point_at (support_at u.supports j) c in
+      let v = n.whole t in
+      let d = dependency u (sym same) in
+      let h = v.0.positive in
+      let s = sum_gap u cell j c numbers bound d.1.0 d.1.1 t v.0 v.2 e in
+      let w = wall_is u cell (same_well p u same n.problem) (same_of p u cell same n.of) (same_independent p u cell same n.independent) mv (moving_frame p cell m n) a x t v.0 v.2 e in
+      mul_cancel (at (sum_at t numbers u cell x) e) (at (line_at (wall mv a x) t) e) v.0.over (λ z. omega (arith, ints, z, h))
+      (turn (at (sum_at t numbers u cell x) e) v.0.over ∙ s ∙ ap (λ z. z *ℤ at (gap t v.0 a x) e) last_is ∙ sym w ∙ turn v.0.over (at (line_at (wall mv a x) t) e))
+    where
+      turn : (x y : ℤ) → x *ℤ y ≡ y *ℤ x
+      turn x y = omega (arith, ints)
+
+  module _ (l : WallLine) (alpha_is : l.alpha ≡ alpha m (point_at (support_at p.supports j) (pair_at cell j).0) (point_at (support_at p.supports j) c))
+      (beta_is : l.beta ≡ beta m (point_at (support_at p.supports j) (pair_at cell j).0) (point_at (support_at p.supports j) c)) where
+    coarse_sum : (t : Time) (e : ℕ) → t.over *ℤ at (l.alpha ∷ []) e +ℤ l.beta *ℤ at t.entries e ≡ at (sum_at t numbers u cell (with_rank 0 (point_at (support_at p.supports j) c))) e
+    coarse_sum t e =
+        let mv = as_moving m n.positive (long_normal p cell m n) in
+        let a = point_at (support_at p.supports j) (pair_at cell j).0 in
+        let x = point_at (support_at p.supports j) c in
+        ap₂ (λ y z. t.over *ℤ at (y ∷ []) e +ℤ z *ℤ at t.entries e) alpha_is beta_is
+        ∙ sym (line_entry (as_line (line_of m 0 a 0 x)) t e)
+        ∙ ap (λ (k : Line). at (line_at k t) e) (line_is m n.positive (long_normal p cell m n) 0 0 a x)
+        ∙ ap₂ (λ (y z : Point). at (line_at (wall mv y z) t) e) (read_point p j (pair_at cell j).0) (read_point p j c)
+        ∙ sym (sum_wall t e)
+        ∙ ap (λ (y : Point). at (sum_at t numbers u cell y) e) (sym (read_point p j c))
+
+    -- with ranks it is the value of the line
+    value_sum : AreParts 1 l.fine → ((rank : ℕ) → entry l.fine rank ≡ sum_of_rank numbers p cell (point_at (support_at p.supports j) c) rank)
+        → (t : Time) (e : ℕ) → at (value l t.entries t.over) e ≡ at (sum_at t numbers p cell (point_at (support_at p.supports j) c)) e
+    value_sum parts fine t e =
+        value_at l parts t e ∙ ap₂ (λ y z. y +ℤ t.over *ℤ z) (coarse_sum t e) (fine e)
+        ∙ sym (sum_marked t numbers p cell (point_at (support_at p.supports j) c) e)
+
+    tells : AreParts 1 l.fine → ((rank : ℕ) → entry l.fine rank ≡ sum_of_rank numbers p cell (point_at (support_at p.supports j) c) rank)
+        → (t : Time) (v : Normal) → IsNormal p cell t v → Tells p cell t v l j c
+    tells parts fine t v normal =
+        let x = point_at (support_at p.supports j) c in
+        let f = value_sum parts fine t in
+        let w = value l t.entries t.over in
+        let s = sum_at t numbers p cell x in
+        let g = λ (e : ℕ). sym (f e) in
+        let h = (dependency_law p cell j c n.problem n.of n.independent further).2 numbers (dependency p refl) t v normal in (
+          ((λ k. h.above.0 (positive-same w s f k)), (λ k. positive-same s w g (h.above.1 k))),
+          ((λ k. h.level.0 (same_zero w s f k)), (λ k. same_zero s w g (h.level.1 k))),
+          ((λ k. h.below.0 (positive-same (minus w) (minus s) (same_minus w s f) k)), (λ k. positive-same (minus s) (minus w) (same_minus s w g) (h.below.1 k))),
+        )
+
+-- ---- all lines
+-- a line of a further point, with its numbers
+abbrev pub IsLineOf : Problem → Cell → MovingNormal → WallLine → Type 0
+IsLineOf p cell m l = IsFurtherAt p cell (l.support - 1) l.position × HasNumbers p cell m l
+
+module _ (p : Problem) (cell : Cell) (m : MovingNormal) (n : IsMovingNormal p cell m) (made : List (List ℤ)) (done : IsEliminated p.dimension (edge_rows p cell) made) (from : IsNormalFrom made m) where
+  pub tell_sides : (lines : List WallLine) → Each lines (IsLineOf p cell m) → Each lines (HasFine p cell made) → TellSides p cell lines
+  tell_sides lines of fine t v normal =
+      each_weaker (λ l. IsLineOf p cell m l × HasFine p cell made l) (TellsSide p cell t v) lines
+      (λ l h. tells p cell m n made done from (l.support - 1) l.position h.0.0 l h.0.1.0 h.0.1.1 h.1.0 h.1.1 t v normal)
+      (each_both (IsLineOf p cell m) (HasFine p cell made) lines of fine)
 
 -- ---- at a time P / Q, by numbers
+abbrev Agree : List ℤ → List ℤ → Type 0
+Agree w g = (IsPositive w ↔ IsPositive g) × (IsZero w ↔ IsZero g) × (IsPositive (minus w) ↔ IsPositive (scale (neg_ℤ (pos 1)) g))
+
 abbrev AgreeAt : ℤ → List ℤ → Type 0
 AgreeAt z g = (pos 0 <ℤ z ↔ IsPositive g) × (z ≡ pos 0 ↔ IsZero g) × (z <ℤ pos 0 ↔ IsPositive (scale (neg_ℤ (pos 1)) g))
 
@@ -85,10 +171,39 @@ one_number z w g e h = subst (λ y. AgreeAt y g) e (
     negative z (inl k) = omega (arith, ints, k)
     negative z (inr k) = absurd k.1
 
-pub tell_sides_at : (p : Problem) (cell : Cell) (lines : List WallLine) → TellSides p cell lines → TellSidesAt p cell lines
+-- lines without infinitesimals
+pub tell_sides_at : (p : Problem) (cell : Cell) (lines : List WallLine) → TellSides p cell (map coarse lines) → TellSidesAt p cell lines
 tell_sides_at p cell lines h P Q positive v n =
-    each_weaker (TellsSide p cell (moment P Q positive) v) (TellsSideAt p cell P Q positive v) lines
-    (λ l w. one_number (Q *ℤ l.alpha +ℤ l.beta *ℤ P) (value_at l P Q) _ (turn Q l.alpha (l.beta *ℤ P)) w) (h (moment P Q positive) v n)
+    each_weaker (λ l. TellsSide p cell (moment P Q positive) v (coarse l)) (TellsSideAt p cell P Q positive v) lines
+    (λ l w. one_number (Q *ℤ l.alpha +ℤ l.beta *ℤ P) (coarse_value l P Q) _ (turn Q l.alpha (l.beta *ℤ P)) w)
+    (each_unmap coarse (TellsSide p cell (moment P Q positive) v) lines (h (moment P Q positive) v n))
   where
     turn : (q a b : ℤ) → q *ℤ a +ℤ b ≡ a *ℤ q +ℤ b
     turn q a b = omega (arith, ints)
+
+-- the same numbers without ranks
+module _ (p : Problem) (cell : Cell) (m : MovingNormal) where
+  coarse_of : (l : WallLine) → IsLineOf p cell m l → IsLineOf (unperturbed p) cell m (coarse l)
+  coarse_of l h =
+      let j = l.support - 1 in (
+        same_further p (unperturbed p) cell j l.position (same_unperturbed p) h.0,
+        subst (λ (y : Point). (l.alpha ≡ alpha m (point_at (support_at (unperturbed p).supports j) (pair_at cell j).0) y) × (l.beta ≡ beta m (point_at (support_at (unperturbed p).supports j) (pair_at cell j).0) y)) (read_point p j l.position)
+            (subst (λ (x : Point). (l.alpha ≡ alpha m x (with_rank 0 (point_at (support_at p.supports j) l.position))) × (l.beta ≡ beta m x (with_rank 0 (point_at (support_at p.supports j) l.position)))) (read_point p j (pair_at cell j).0) h.1),
+      )
+
+  pub coarse_lines : (lines : List WallLine) → Each lines (IsLineOf p cell m) → Each (map coarse lines) (IsLineOf (unperturbed p) cell m)
+  coarse_lines lines h = each_map coarse (IsLineOf (unperturbed p) cell m) lines (each_weaker (IsLineOf p cell m) (λ l. IsLineOf (unperturbed p) cell m (coarse l)) lines coarse_of h)
+
+-- and no parts
+module _ (p : Problem) (cell : Cell) (made : List (List ℤ)) where
+  pub coarse_fine : (l : WallLine) → HasFine (unperturbed p) cell made (coarse l)
+  coarse_fine l =
+      let j = l.support - 1 in (
+        tt,
+        λ rank. subst (λ (s : List Point). pos 0 ≡ sum_of_rank (circuit_of (unperturbed p) cell made j l.position) (unperturbed p) cell (point_at s l.position) rank) (sym (support_unranked p.supports j))
+            (sym (sum_unranked (circuit_of (unperturbed p) cell made j l.position) p cell (support_at p.supports j) l.position rank)),
+      )
+
+  pub coarse_fines : (lines : List WallLine) → Each (map coarse lines) (HasFine (unperturbed p) cell made)
+  coarse_fines [] = tt
+  coarse_fines (l ∷ lines) = (coarse_fine l, coarse_fines lines)

@@ -1,6 +1,8 @@
 pub mod Numbers
+pub mod Fines
 pub mod Workings
 pub mod Listed
+pub mod Parts
 pub mod Made
 pub mod Places
 pub mod Sides

@@ -1,4 +1,4 @@
--- The list of a cell's wall lines, for the inner functions; no public clause cites it.
+-- The list of a cell's wall lines without infinitesimals, for the inner functions; no public clause cites it.
 use Rattle.std.specs.Prelude.{ℕ, suc, ◌==◌, if◌then◌else◌, List, [], ◌∷◌, ◌++◌}
 use Rattle.cayley.specs.Problems.{Point, point_at}
 use Rattle.cayley.specs.Cells.{Cell}
@@ -8,7 +8,7 @@ use Rattle.cone_walls.specs.Numbers.{alpha, beta}
 
 -- the line of point c, at a position of support i, against point a
 abbrev pub line_of : MovingNormal → ℕ → Point → ℕ → Point → WallLine
-line_of m i a position c = record { support = i; position = position; alpha = alpha m a c; beta = beta m a c }
+line_of m i a position c = record { support = i; position = position; alpha = alpha m a c; beta = beta m a c; fine = [] }
 
 -- that of the point at a position of support i, but for the pair's own points
 abbrev pub one_line : MovingNormal → ℕ → List Point → ℕ → ℕ → ℕ → List WallLine
@@ -34,3 +34,7 @@ abbrev pub wall_lines : MovingNormal → ℕ → List (List Point) → Cell → 
 wall_lines m i [] cell = []
 wall_lines m i (s ∷ supports) [] = []
 wall_lines m i (s ∷ supports) (x ∷ cell) = support_lines m i s x.0 x.1 ++ wall_lines m (suc i) supports cell
+
+-- a line without its infinitesimals
+abbrev pub coarse : WallLine → WallLine
+coarse line = record line { fine = [] }

@@ -10,9 +10,13 @@ use Rattle.cone_walls.specs.declared.rooms.Copies.{Copies}
 use Rattle.cone_walls.specs.declared.rooms.Room.{Room}
 use Rattle.cone_walls.specs.declared.rooms.Room.TheVariants as room
 
+-- a speed that takes a height from one within its limits to another in one unit of time
+abbrev pub IsSpeed : ℤ → Type 0
+IsSpeed z = unsigned_abs z ≤ 2000000000
+
 -- below 2 ^ 62, for coordinates of at most `reach`
 abbrev pub IsNarrowRoom : ℤ → ℕ → ℕ → Type 0
-IsNarrowRoom den most reach = (unsigned_abs den < 2 ^ 30) × (most < 2 ^ 61) × (most * reach < 2 ^ 56)
+IsNarrowRoom den most reach = (unsigned_abs den < 2 ^ 29) × (most < 2 ^ 61) × (most * reach < 2 ^ 56)
 
 -- below 2 ^ 127, for every problem
 abbrev pub IsWideRoom : ℤ → ℕ → Type 0

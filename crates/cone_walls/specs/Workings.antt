@@ -1,10 +1,12 @@
 -- The working of a cell up to its wall lines, over unbounded whole numbers.
-use Rattle.std.specs.Prelude.{ℕ, suc, List, length, ℤ, pos}
+use Rattle.std.specs.Prelude.{◌≡◌, ℕ, suc, List, length, ℤ, pos}
 use Rattle.reduced_rows.specs.Denominators.{shares}
 use Rattle.reduced_rows.specs.CellRefusals.{FitsBeyond}
-use Rattle.cayley.specs.Problems.{Problem, Point, point_at}
+use Rattle.cayley.specs.Problems.{version2, Problem, Point, point_at}
 use Rattle.cayley.specs.Cells.{Cell, EachPair, IsFurther}
+use Rattle.cayley.specs.Dependencies.{IsFurtherAt}
 use Rattle.cayley.specs.Rows.{edge_rows}
+use Rattle.inner_normal.specs.Coefficients.{FitsCircuit}
 use Rattle.inner_normal.specs.declared.moving.MovingNormal.{MovingNormal}
 use Rattle.inner_normal.specs.Workings.{denominator, FitsNormal}
 use Rattle.cone_walls.specs.Numbers.{FitsWall}
@@ -29,10 +31,14 @@ FitsSupport m s a b = (c : ℕ) → FitsPoint m s a b c
 abbrev pub FitsWalls : Problem → Cell → MovingNormal → Type 0
 FitsWalls p cell m = EachPair p.supports cell (FitsSupport m)
 
+-- in version 2 the circuits of all further points fit
+abbrev pub FitsCircuits : Problem → Cell → List (List ℤ) → Type 0
+FitsCircuits p cell made = p.version ≡ version2 → (j c : ℕ) → IsFurtherAt p cell j c → FitsCircuit p cell j c made
+
 -- what follows the elimination
 abbrev pub FitsRest : Problem → Cell → List (List ℤ) → Type 0
-FitsRest p cell made = FitsNormal p.dimension made × FitsWalls p cell (normal_of_rows made)
+FitsRest p cell made = FitsNormal p.dimension made × FitsWalls p cell (normal_of_rows made) × FitsCircuits p cell made
 
--- the elimination of the cell's rows fits, and where it doesn't end with a kernel, normal and wall lines fit too
+-- the elimination of the cell's rows fits, and where it doesn't end with a kernel, normal, wall lines and in version 2 circuits fit too
 abbrev pub FitsWallWorking : Problem → Cell → Type 0
 FitsWallWorking p cell = FitsBeyond p.dimension (edge_rows p cell) (FitsRest p cell)

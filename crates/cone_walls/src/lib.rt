@@ -2,13 +2,14 @@
 //! point is above.
 #![tactic(auto)]
 
+mod fines;
 mod lines;
 mod rooms;
 mod steps;
 mod sums;
 mod walls;
 
-pub use crossing::WallLine;
+pub use crossing::{Fine, WallLine};
 pub use inner_normal::MovingNormal;
 pub use reduced_rows::{CellFault, Reduced};
 pub use steps::Steps;

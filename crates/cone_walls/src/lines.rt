@@ -1,7 +1,7 @@
 ghost use Rattle.std.specs.Prelude.{◌≡◌, ◌<◌, ◌≤◌, ◌++◌, ◌+◌, ℕ, List, MatchResult, IfOk, OnOk, All, length};
 ghost use Rattle.int_vectors.specs.Vectors.{Each};
 ghost use Rattle.cayley.specs.Cells.{EachPair, IsFurther, IsOf};
-ghost use Rattle.cayley.specs.Problems.{point_at};
+ghost use Rattle.cayley.specs.Problems.{point_at, with_rank};
 ghost use Rattle.cayley.specs.Stored.{point};
 ghost use Rattle.cayley.specs.Valid.{IsValidProblem, support_at};
 ghost use Rattle.crossing.specs.Lines.{FitsLine};
@@ -22,6 +22,7 @@ use std::alloc::Global;
 
 // Appends the line of the point at a position of support i, unless it is of the pair.
 fn push_line(
+    alloc: Global,
     lines: &mut Vec<WallLine>,
     problem: &Problem,
     normal: &MovingNormal,
@@ -48,7 +49,7 @@ fn push_line(
     }
     let a = problem.point(i, pair.0);
     let c = problem.point(i, position);
-    let Some(made) = line(normal, room, i, a, position, c) else {
+    let Some(made) = line(alloc, normal, room, i, a, position, c) else {
         return Err(FromFault::Overflow);
     };
     lines.push(made)?;
@@ -58,6 +59,7 @@ fn push_line(
 // As `push_line`, in 64 bits, against the first point of the pair.
 #[inline(always)]
 fn push_narrow_line(
+    alloc: Global,
     lines: &mut Vec<WallLine>,
     problem: &Problem,
     normal: &MovingNormal,
@@ -70,7 +72,7 @@ fn push_narrow_line(
     requires least { 1 ≤ i }
     requires greatest { i ≤ problem.now.dimension }
     requires pair { (1 ≤ pair.0) × (pair.0 ≤ length (support_at problem.now i)) }
-    requires first { point a.now ≡ point_at (support_at problem.now i) pair.0 }
+    requires first { point a.now ≡ with_rank 0 (point_at (support_at problem.now i) pair.0) }
     requires position { (1 ≤ position) × (position ≤ length (support_at problem.now i)) }
     requires p_long { length normal.now.p ≡ problem.now.dimension }
     requires q_long { length normal.now.q ≡ problem.now.dimension }
@@ -86,13 +88,14 @@ fn push_narrow_line(
         return Ok(());
     }
     let c = problem.point(i, position);
-    let made = narrow_line_of(normal, copies, i, a, position, c);
+    let made = narrow_line_of(alloc, normal, copies, i, a, position, c);
     lines.push(made)?;
     Ok(())
 }
 
 // As `push_lines`, in 64 bits.
 fn push_narrow_lines(
+    alloc: Global,
     lines: &mut Vec<WallLine>,
     problem: &Problem,
     normal: &MovingNormal,
@@ -115,13 +118,14 @@ fn push_narrow_lines(
 {
     let a = problem.point(i, pair.0);
     for index in 0..problem.count(i) {
-        push_narrow_line(lines, problem, normal, copies, i, pair, a, index + 1)?;
+        push_narrow_line(alloc, lines, problem, normal, copies, i, pair, a, index + 1)?;
     }
     Ok(())
 }
 
 // As `push_lines`, with the room of each line.
 fn push_other_lines(
+    alloc: Global,
     lines: &mut Vec<WallLine>,
     problem: &Problem,
     normal: &MovingNormal,
@@ -142,13 +146,14 @@ fn push_other_lines(
     ensures fit { All FitsLine lines.new.items }
 {
     for index in 0..problem.count(i) {
-        push_line(lines, problem, normal, room, i, pair, index + 1)?;
+        push_line(alloc, lines, problem, normal, room, i, pair, index + 1)?;
     }
     Ok(())
 }
 
 // Appends the lines of the further points of support i.
 fn push_lines(
+    alloc: Global,
     lines: &mut Vec<WallLine>,
     problem: &Problem,
     normal: &MovingNormal,
@@ -169,8 +174,10 @@ fn push_lines(
     ensures fit { All FitsLine lines.new.items }
 {
     match room {
-        Room::Narrow { copies } => push_narrow_lines(lines, problem, normal, copies, i, pair),
-        _ => push_other_lines(lines, problem, normal, room, i, pair),
+        Room::Narrow { copies } => push_narrow_lines(
+            alloc, lines, problem, normal, copies, i, pair,
+        ),
+        _ => push_other_lines(alloc, lines, problem, normal, room, i, pair),
     }
 }
 
@@ -203,7 +210,15 @@ fn lines_within(
     let _dim = problem.dim();
     let mut lines = Vec::with_capacity(alloc, further_points(problem))?;
     for (i, pair) in cell.pairs().iter().enumerate() {
-        push_lines(&mut lines, problem, normal, room, i as u32 + 1, *pair)?;
+        push_lines(
+            alloc,
+            &mut lines,
+            problem,
+            normal,
+            room,
+            i as u32 + 1,
+            *pair,
+        )?;
     }
     Ok(lines)
 }

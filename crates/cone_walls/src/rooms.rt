@@ -26,7 +26,7 @@ pub(crate) enum Room {
 fn is_narrow(den: i128, most: u128, reach: u128) -> bool
     ensures { IsTrue result → IsNarrowRoom den most reach }
 {
-    if den.unsigned_abs() >= 1 << 30 || most >= 1 << 61 {
+    if den.unsigned_abs() >= 1 << 29 || most >= 1 << 61 {
         return false;
     }
     match most.checked_mul(reach) {

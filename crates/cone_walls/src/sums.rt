@@ -1,4 +1,4 @@
-ghost use Rattle.std.specs.Prelude.{◌≡◌, ◌<◌, ◌^◌, unsigned_abs, ℕ, ℤ, pos, ◌+ℤ◌, ◌-ℤ◌, ◌*ℤ◌, SomeIff, IfSome, length};
+ghost use Rattle.std.specs.Prelude.{◌≡◌, [], ◌<◌, ◌^◌, unsigned_abs, ℕ, ℤ, pos, ◌+ℤ◌, ◌-ℤ◌, ◌*ℤ◌, SomeIff, IfSome, length};
 ghost use Rattle.wide_int.specs.Whole.{FitsWhole};
 ghost use Rattle.int_vectors.specs.Bounds as bounds;
 ghost use Rattle.int_vectors.specs.Bounds.{IsNarrow};
@@ -9,13 +9,15 @@ ghost use Rattle.cayley.specs.Valid.{IsHeight};
 ghost use Rattle.crossing.specs.Lines.{FitsLine};
 ghost use Rattle.cone_walls.specs.Listed as listed;
 ghost use Rattle.cone_walls.specs.Numbers.{FitsWall};
-ghost use Rattle.cone_walls.specs.Rooms.{IsRoomAt, AreCopies, HasRoom};
+ghost use Rattle.cone_walls.specs.Rooms.{IsRoomAt, AreCopies, HasRoom, IsSpeed};
 
+use crate::fines::nothing;
 use crate::rooms::{Copies, Room};
 use cayley::Point;
 use crossing::WallLine;
 use inner_normal::MovingNormal;
 use int_vectors::{dot_between, dot_between_unchecked, narrow_dots_between};
+use std::alloc::Global;
 use wide_int::product;
 
 // How much higher c is than a at the time 0.
@@ -27,8 +29,8 @@ fn base_difference(a: i64, c: i64) -> i128
 }
 
 // How much faster c rises than a.
-fn speed_difference(a: u8, c: u8) -> i128
-    ensures value { result ≡ pos c -ℤ pos a }
+fn speed_difference(a: i64, c: i64) -> i128
+    ensures value { result ≡ c -ℤ a }
     ensures fits { FitsWhole result }
 {
     c as i128 - a as i128
@@ -49,6 +51,7 @@ fn number(den: i128, height: i128, a: &Point, c: &Point, v: &[i128]) -> Option<i
 
 // The line of point `c`, with a check for each of its numbers.
 fn checked_line(
+    alloc: Global,
     normal: &MovingNormal,
     i: u32,
     a: &Point,
@@ -81,6 +84,7 @@ fn checked_line(
         position,
         alpha,
         beta,
+        fine: nothing(alloc),
     })
 }
 
@@ -105,27 +109,39 @@ fn rise(a: i64, c: i64) -> i64
 
 // How much faster c rises than a.
 #[inline(always)]
-fn haste(a: u8, c: u8) -> i64
-    ensures { result ≡ pos c -ℤ pos a }
+fn haste(a: i64, c: i64) -> i64
+    requires a_fast { IsSpeed a }
+    requires c_fast { IsSpeed c }
+    ensures { result ≡ c -ℤ a }
 {
-    c as i64 - a as i64
+    c - a
 }
 
 // The line of point `c`, by numbers of 64 bits.
 #[inline(always)]
-fn narrow_line(copies: &Copies, i: u32, a: &Point, position: u32, c: &Point) -> WallLine
+fn narrow_line(
+    alloc: Global,
+    copies: &Copies,
+    i: u32,
+    a: &Point,
+    position: u32,
+    c: &Point,
+) -> WallLine
     requires p_lengths { (length a.now.coords ≡ length copies.now.p.items) × (length c.now.coords ≡ length copies.now.p.items) }
     requires q_length { length copies.now.q.items ≡ length copies.now.p.items }
     requires a_small { Each a.now.coords IsNarrow }
     requires c_small { Each c.now.coords IsNarrow }
     requires a_high { IsHeight a.now.base }
     requires c_high { IsHeight c.now.base }
+    requires a_fast { IsSpeed a.now.speed }
+    requires c_fast { IsSpeed c.now.speed }
     requires alpha { bounds.Room (2 ^ 62) (copies.now.den *ℤ (c.now.base -ℤ a.now.base)) (sub c.now.coords a.now.coords) copies.now.p.items }
-    requires beta { bounds.Room (2 ^ 62) (copies.now.den *ℤ (pos c.now.speed -ℤ pos a.now.speed)) (sub c.now.coords a.now.coords) copies.now.q.items }
+    requires beta { bounds.Room (2 ^ 62) (copies.now.den *ℤ (c.now.speed -ℤ a.now.speed)) (sub c.now.coords a.now.coords) copies.now.q.items }
     ensures support { result.support ≡ i }
     ensures position { result.position ≡ position }
+    ensures fine { result.fine ≡ [] }
     ensures alpha { result.alpha ≡ copies.now.den *ℤ (c.now.base -ℤ a.now.base) +ℤ dot (sub c.now.coords a.now.coords) copies.now.p.items }
-    ensures beta { result.beta ≡ copies.now.den *ℤ (pos c.now.speed -ℤ pos a.now.speed) +ℤ dot (sub c.now.coords a.now.coords) copies.now.q.items }
+    ensures beta { result.beta ≡ copies.now.den *ℤ (c.now.speed -ℤ a.now.speed) +ℤ dot (sub c.now.coords a.now.coords) copies.now.q.items }
 {
     let start = scaled(copies.den, rise(a.base, c.base));
     let other = scaled(copies.den, haste(a.speed, c.speed));
@@ -142,12 +158,14 @@ fn narrow_line(copies: &Copies, i: u32, a: &Point, position: u32, c: &Point) -> 
         position,
         alpha: alpha as i128,
         beta: beta as i128,
+        fine: nothing(alloc),
     }
 }
 
 // The same, as the line of the normal.
 #[inline(always)]
 pub(crate) fn narrow_line_of(
+    alloc: Global,
     normal: &MovingNormal,
     copies: &Copies,
     i: u32,
@@ -161,12 +179,14 @@ pub(crate) fn narrow_line_of(
     requires c_small { Each c.now.coords IsNarrow }
     requires a_high { IsHeight a.now.base }
     requires c_high { IsHeight c.now.base }
+    requires a_fast { IsSpeed a.now.speed }
+    requires c_fast { IsSpeed c.now.speed }
     requires copies { AreCopies copies.now normal.now }
     requires room { HasRoom (2 ^ 62) normal.now (point a.now) (point c.now) }
     ensures value { FitsWall normal.now (point a.now) (point c.now) × (result ≡ listed.line_of normal.now i (point a.now) position (point c.now)) }
     ensures fits { FitsLine result }
 {
-    narrow_line(copies, i, a, position, c)
+    narrow_line(alloc, copies, i, a, position, c)
 }
 
 // The product of two numbers, where a bound shows that it fits.
@@ -179,17 +199,25 @@ fn wide_scaled(den: i128, h: i128) -> i128
 }
 
 // The line of point `c`, by numbers of 128 bits, where a bound shows that they fit.
-fn wide_line(normal: &MovingNormal, i: u32, a: &Point, position: u32, c: &Point) -> WallLine
+fn wide_line(
+    alloc: Global,
+    normal: &MovingNormal,
+    i: u32,
+    a: &Point,
+    position: u32,
+    c: &Point,
+) -> WallLine
     requires p_lengths { (length a.now.coords ≡ length normal.now.p) × (length c.now.coords ≡ length normal.now.p) }
     requires q_length { length normal.now.q ≡ length normal.now.p }
     requires a_small { Each a.now.coords IsNarrow }
     requires c_small { Each c.now.coords IsNarrow }
     requires alpha { bounds.Room (2 ^ 127) (normal.now.den *ℤ (c.now.base -ℤ a.now.base)) (sub c.now.coords a.now.coords) normal.now.p }
-    requires beta { bounds.Room (2 ^ 127) (normal.now.den *ℤ (pos c.now.speed -ℤ pos a.now.speed)) (sub c.now.coords a.now.coords) normal.now.q }
+    requires beta { bounds.Room (2 ^ 127) (normal.now.den *ℤ (c.now.speed -ℤ a.now.speed)) (sub c.now.coords a.now.coords) normal.now.q }
     ensures support { result.support ≡ i }
     ensures position { result.position ≡ position }
+    ensures fine { result.fine ≡ [] }
     ensures alpha { result.alpha ≡ normal.now.den *ℤ (c.now.base -ℤ a.now.base) +ℤ dot (sub c.now.coords a.now.coords) normal.now.p }
-    ensures beta { result.beta ≡ normal.now.den *ℤ (pos c.now.speed -ℤ pos a.now.speed) +ℤ dot (sub c.now.coords a.now.coords) normal.now.q }
+    ensures beta { result.beta ≡ normal.now.den *ℤ (c.now.speed -ℤ a.now.speed) +ℤ dot (sub c.now.coords a.now.coords) normal.now.q }
 {
     let start = wide_scaled(normal.den, base_difference(a.base, c.base));
     let other = wide_scaled(normal.den, speed_difference(a.speed, c.speed));
@@ -202,12 +230,14 @@ fn wide_line(normal: &MovingNormal, i: u32, a: &Point, position: u32, c: &Point)
         position,
         alpha,
         beta,
+        fine: nothing(alloc),
     }
 }
 
 // The line of point `c` at a position of support i against point `a`, as fast as the room of the
 // normal allows.
 pub(crate) fn line(
+    alloc: Global,
     normal: &MovingNormal,
     room: &Room,
     i: u32,
@@ -221,13 +251,15 @@ pub(crate) fn line(
     requires c_small { Each c.now.coords IsNarrow }
     requires a_high { IsHeight a.now.base }
     requires c_high { IsHeight c.now.base }
+    requires a_fast { IsSpeed a.now.speed }
+    requires c_fast { IsSpeed c.now.speed }
     requires room { IsRoomAt normal.now (point a.now) (point c.now) room.now }
     ensures value { SomeIff result (FitsWall normal.now (point a.now) (point c.now)) (listed.line_of normal.now i (point a.now) position (point c.now)) }
     ensures fits { IfSome result FitsLine }
 {
     match room {
-        Room::Narrow { copies } => Some(narrow_line(copies, i, a, position, c)),
-        Room::Wide => Some(wide_line(normal, i, a, position, c)),
-        Room::Unknown => checked_line(normal, i, a, position, c),
+        Room::Narrow { copies } => Some(narrow_line(alloc, copies, i, a, position, c)),
+        Room::Wide => Some(wide_line(alloc, normal, i, a, position, c)),
+        Room::Unknown => checked_line(alloc, normal, i, a, position, c),
     }
 }

@@ -6,6 +6,7 @@ use crate::{CellFault, Steps, WallLine, Walls, walls_of};
 use cayley::{Cell, Point, Problem, Support};
 use crossing::{Entry, Exit, entry_of, exit_of};
 use int_vectors::IntVec;
+use lex_height::{Lex, LexPart};
 use std::alloc::Global;
 use std::marker::Brand;
 use std::sync::ledger::{Blank, Ledger};
@@ -13,7 +14,7 @@ use std::test::Fail;
 use wide_int::{Frac, OutOfMemory};
 
 // Two squares, and the corners of their path.
-const FIRST: [(&[i128], i64, u8); 7] = [
+const FIRST: [(&[i128], i64, i64); 7] = [
     (&[0, 0], 3, 0),
     (&[1, 0], 10, 0),
     (&[0, 1], 20, 0),
@@ -23,7 +24,7 @@ const FIRST: [(&[i128], i64, u8); 7] = [
     (&[0, 2], 100, 1),
 ];
 
-const SECOND: [(&[i128], i64, u8); 7] = [
+const SECOND: [(&[i128], i64, i64); 7] = [
     (&[0, 0], 5, 0),
     (&[1, 0], 40, 0),
     (&[0, 1], 9, 0),
@@ -33,7 +34,7 @@ const SECOND: [(&[i128], i64, u8); 7] = [
     (&[0, 2], 0, 1),
 ];
 
-fn support(alloc: Global, given: &[(&[i128], i64, u8)]) -> Result<Support, Fail> {
+fn support(alloc: Global, given: &[(&[i128], i64, i64)], file: u32) -> Result<Support, Fail> {
     let mut points = Vec::new(alloc);
     for (coords, base, speed) in given {
         let coords = IntVec::from_slice(alloc, coords)?;
@@ -43,15 +44,30 @@ fn support(alloc: Global, given: &[(&[i128], i64, u8)]) -> Result<Support, Fail>
             speed: *speed,
         })?;
     }
-    Ok(Support { points, file: 4 })
+    Ok(Support { points, file })
 }
 
 fn squares(alloc: Global) -> Result<Problem, Fail> {
     let mut supports = Vec::new(alloc);
     for points in [&FIRST, &SECOND] {
-        supports.push(support(alloc, points)?)?;
+        supports.push(support(alloc, points, 4)?)?;
     }
     Ok(Problem::new(alloc, 2, supports)?)
+}
+
+// Three points of one height on a line, and the corners of their path, with infinitesimals.
+const LEVEL: [(&[i128], i64, i64); 5] = [
+    (&[0], 0, 0),
+    (&[1], 0, 0),
+    (&[2], 0, 0),
+    (&[0], 0, 1),
+    (&[2], 0, 1),
+];
+
+fn level_points(alloc: Global) -> Result<Problem, Fail> {
+    let mut supports = Vec::new(alloc);
+    supports.push(support(alloc, &LEVEL, 3)?)?;
+    Ok(Problem::perturbed(alloc, 1, supports)?)
 }
 
 // The walls of a cell and the two ends of its lines.
@@ -98,20 +114,29 @@ fn seen<L: Ledger>(
     Ok(View { walls, entry, exit })
 }
 
-// What is seen of a cell of the two squares.
-fn seen_at(alloc: Global, pairs: &[(u32, u32)]) -> Result<Option<Result<View, CellFault>>, Fail> {
-    let problem = squares(alloc)?;
+// What is seen of a cell of a problem.
+fn seen_of(
+    alloc: Global,
+    problem: &Problem,
+    pairs: &[(u32, u32)],
+) -> Result<Option<Result<View, CellFault>>, Fail> {
     let Some(cell) = Cell::new(alloc, pairs) else {
         return Ok(None);
     };
     if !problem.contains(&cell) {
         return Ok(None);
     }
-    let answer = seen::<Brand>(alloc, &problem, &cell, Blank::new(1));
+    let answer = seen::<Brand>(alloc, problem, &cell, Blank::new(1));
     if let Err(CellFault::OutOfMemory) = &answer {
         return Err(OutOfMemory.into());
     }
     Ok(Some(answer))
+}
+
+// What is seen of a cell of the two squares.
+fn seen_at(alloc: Global, pairs: &[(u32, u32)]) -> Result<Option<Result<View, CellFault>>, Fail> {
+    let problem = squares(alloc)?;
+    seen_of(alloc, &problem, pairs)
 }
 
 // The numbers of the lines one after the other.
@@ -122,6 +147,19 @@ fn numbers(alloc: Global, lines: &[WallLine]) -> Result<Vec<i128>, Fail> {
         all.push(i128::from(line.position))?;
         all.push(line.alpha)?;
         all.push(line.beta)?;
+    }
+    Ok(all)
+}
+
+// The fine parts of the lines one after the other, each with the position of its line.
+fn fines(alloc: Global, lines: &[WallLine]) -> Result<Vec<i128>, Fail> {
+    let mut all = Vec::new(alloc);
+    for line in lines {
+        for part in line.fine.as_slice() {
+            all.push(i128::from(line.position))?;
+            all.push(i128::from(part.rank))?;
+            all.push(part.num)?;
+        }
     }
     Ok(all)
 }
@@ -168,8 +206,8 @@ fn lines_of_an_inner_cell(rt: HostRuntime) -> Result<(), Fail> {
 fn ends_of_an_inner_cell(rt: HostRuntime) -> Result<(), Fail> {
     let answer = seen_at(rt.alloc(), &[(1, 6), (4, 5)])?;
     if let Some(Ok(seen)) = &answer {
-        let first = Frac::lowest(3, 1).unwrap();
-        let last = Frac::lowest(5, 1).unwrap();
+        let first = Lex::of(&Frac::lowest(3, 1).unwrap());
+        let last = Lex::of(&Frac::lowest(5, 1).unwrap());
         assert_eq!(rt;
             seen.entry,
             Entry::At {
@@ -197,6 +235,51 @@ fn a_dependent_cell(rt: HostRuntime) -> Result<(), Fail> {
         assert_eq!(rt; kernel.as_slice(), [-1, 1].as_slice());
     } else {
         assert!(rt; false, "the cell is dependent");
+    }
+    Ok(())
+}
+
+#[test]
+fn lines_of_level_points(rt: HostRuntime) -> Result<(), Fail> {
+    let problem = level_points(rt.alloc())?;
+    let answer = seen_of(rt.alloc(), &problem, &[(4, 5)])?;
+    if let Some(Ok(seen)) = &answer {
+        let all = numbers(rt.alloc(), &seen.walls.lines)?;
+        assert_eq!(rt;
+            all.as_slice(),
+            [1, 1, 0, -2, 1, 2, 0, -2, 1, 3, 0, -2].as_slice()
+        );
+        let parts = fines(rt.alloc(), &seen.walls.lines)?;
+        assert_eq!(rt; parts.as_slice(), [1, 1, 2, 2, 2, 2, 3, 3, 2].as_slice());
+        let time = Lex::new(&[LexPart { rank: 3, num: 1 }], 1).unwrap();
+        assert_eq!(rt; seen.entry, Entry::Always);
+        assert_eq!(rt; seen.exit, Exit::At { time, which: 3 });
+    } else {
+        assert!(rt; false, "the cell has lines");
+    }
+    Ok(())
+}
+
+// The middle point is below the line through the outer ones at all times, by its own infinitesimal
+// and those of the pair.
+#[test]
+fn lines_of_the_outer_points(rt: HostRuntime) -> Result<(), Fail> {
+    let problem = level_points(rt.alloc())?;
+    let answer = seen_of(rt.alloc(), &problem, &[(1, 3)])?;
+    if let Some(Ok(seen)) = &answer {
+        let all = numbers(rt.alloc(), &seen.walls.lines)?;
+        assert_eq!(rt;
+            all.as_slice(),
+            [1, 2, 0, 0, 1, 4, 0, 2, 1, 5, 0, 2].as_slice()
+        );
+        let parts = fines(rt.alloc(), &seen.walls.lines)?;
+        assert_eq!(rt;
+            parts.as_slice(),
+            [2, 1, -1, 2, 2, 2, 2, 3, -1, 4, 1, -2, 5, 3, -2].as_slice()
+        );
+        assert_eq!(rt; seen.entry, Entry::Dead);
+    } else {
+        assert!(rt; false, "the cell has lines");
     }
     Ok(())
 }

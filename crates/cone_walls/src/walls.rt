@@ -1,8 +1,8 @@
-ghost use Rattle.std.specs.Prelude.{◌≡◌, ◌↔◌, ◌+◌, All, IfOk, IfErr, MatchResult};
+ghost use Rattle.std.specs.Prelude.{◌≡◌, ◌↔◌, ◌+◌, [], All, IfOk, IfErr, MatchResult};
 ghost use Rattle.int_vectors.specs.Vectors.{Each};
 ghost use Rattle.cayley.specs.Cells.{IsOf, IsIndependent, IsCellKernel};
 ghost use Rattle.cayley.specs.Problems as problems;
-ghost use Rattle.cayley.specs.Problems.{unperturbed, HasSamePoints};
+ghost use Rattle.cayley.specs.Problems.{unperturbed, version1, HasSamePoints};
 ghost use Rattle.cayley.specs.Rows.{edge_rows};
 ghost use Rattle.crossing.specs.Entries.{IsEntry};
 ghost use Rattle.crossing.specs.Lines.{FitsLine};
@@ -12,12 +12,14 @@ ghost use Rattle.inner_normal.specs.Workings.{IsNormalFrom};
 ghost use Rattle.reduced_rows.specs.CellRefusals.{IsEliminated, IsCellFault, OnDependent, HasAnswer, IsCellDependent, CellOverflowExactly};
 ghost use Rattle.reduced_rows.specs.Refusals.{IsFromFault};
 ghost use Rattle.reduced_rows.specs.Steps.{FitsElimination};
+ghost use Rattle.cone_walls.specs.Fines.{HasFine};
 ghost use Rattle.cone_walls.specs.Lives.{IsNeverAlive, LivesBetween};
 ghost use Rattle.cone_walls.specs.Made.{IsMade};
 ghost use Rattle.cone_walls.specs.Places.{AreOfFurtherPoints, HasNumbers};
 ghost use Rattle.cone_walls.specs.Sides.{TellSides, TellSidesAt};
 ghost use Rattle.cone_walls.specs.Workings.{FitsRest, FitsWallWorking};
 
+use crate::fines::with_fines;
 use crate::lines::lines_of;
 use crate::steps::Steps;
 use cayley::{Cell, Problem};
@@ -54,7 +56,8 @@ fn walls_within(
 {
     let _dim = problem.dim();
     let normal = eliminated.normal(alloc)?;
-    let lines = lines_of(alloc, problem, cell, &normal)?;
+    let coarse = lines_of(alloc, problem, cell, &normal)?;
+    let lines = with_fines(alloc, problem, cell, &eliminated, coarse)?;
     Ok(Walls {
         reduced: eliminated.into_reduced(),
         normal,
@@ -76,10 +79,13 @@ fn made_walls(alloc: Global, problem: &Problem, cell: &Cell) -> Result<Walls, Ce
 
 /// The reduced rows, the normal and the wall lines of a cell that the problem contains. `Overflow`
 /// exactly where a number of the elimination, kernel, denominator, normal or wall lines doesn't
-/// fit, else `Dependent` exactly where the differences are dependent. Each call is a step.
+/// fit, or in version 2 a number of a further point's circuit, else `Dependent` exactly where the
+/// differences are dependent. Each call is a step.
 ///
 /// The line of point c of a support is `den` times how much higher c stands than the first point of
-/// the support's pair, under the cell's normal over `den` (walls, in outline after Jensen 2016).
+/// the support's pair, under the cell's normal over `den` (walls, in outline after Jensen 2016). In
+/// version 2 the infinitesimals of the points take part, each times the number of its point in the
+/// circuit of the cell and c.
 pub fn walls_of<L: Ledger>(
     alloc: Global,
     problem: &Problem,
@@ -97,12 +103,20 @@ pub fn walls_of<L: Ledger>(
     ensures places { IfOk result (λ w. AreOfFurtherPoints problem.now cell.now w.lines.items) }
     ensures values { IfOk result (λ w. Each w.lines.items (HasNumbers problem.now cell.now w.normal)) }
     ensures fit { IfOk result (λ w. All FitsLine w.lines.items) }
-    // The line's value is positive, zero or negative exactly where its point is above, level or below.
-    ensures sides { IfOk result (λ w. (p : problems.Problem) → HasSamePoints p problem.now → TellSidesAt (unperturbed p) cell.now w.lines.items) }
-    ensures all_times { IfOk result (λ w. (p : problems.Problem) → HasSamePoints p problem.now → TellSides (unperturbed p) cell.now w.lines.items) }
+    // The fine parts: for each rank the sum of the numbers of the circuit's points that have it, and
+    // none in version 1.
+    ensures fine { IfOk result (λ w. Each w.lines.items (HasFine problem.now cell.now w.reduced)) }
+    ensures plain { problem.now.version ≡ version1 → IfOk result (λ w. Each w.lines.items (λ line. line.fine ≡ [])) }
+    // At every time the line's value is positive, zero or negative exactly where its point is above,
+    // level or below.
+    ensures sides { IfOk result (λ w. TellSides problem.now cell.now w.lines.items) }
+    // Without the fine parts it tells so of heights without infinitesimals.
+    ensures coarse { IfOk result (λ w. (p : problems.Problem) → HasSamePoints p problem.now → TellSidesAt (unperturbed p) cell.now w.lines.items) }
     // The cell's life is the open interval between the two ends of its lines.
-    ensures dead { IfOk result (λ w. (p : problems.Problem) → HasSamePoints p problem.now → IsNeverAlive (unperturbed p) cell.now ↔ IsEntry w.lines.items entry.Dead) }
-    ensures life { IfOk result (λ w. (p : problems.Problem) → HasSamePoints p problem.now → LivesBetween (unperturbed p) cell.now w.lines.items) }
+    ensures dead { IfOk result (λ w. IsNeverAlive problem.now cell.now ↔ IsEntry w.lines.items entry.Dead) }
+    ensures life { IfOk result (λ w. LivesBetween problem.now cell.now w.lines.items) }
+    // Ok: all numbers of the working fit.
+    ensures whole { IfOk result (λ _. FitsWallWorking problem.now cell.now) }
     ensures overflow { HasAnswer result → CellOverflowExactly (FitsWallWorking problem.now cell.now) result }
     ensures dependent { HasAnswer result → IsCellDependent result
         ↔ (FitsElimination problem.now.dimension (edge_rows problem.now cell.now) × ¬ (IsIndependent problem.now cell.now)) }

@@ -6,7 +6,7 @@ use Rattle.cayley.proofs.Lists.Reaching.{near_narrow}
 use Rattle.crossing.specs.Lines.{FitsLine}
 use Rattle.cone_walls.proofs.Pushing.{all_one}
 use Rattle.cone_walls.proofs.ProblemPoints.{near_point}
-use Rattle.cone_walls.proofs.RoomAround.{high_point, point_within, room_at, slow_point, slow_between}
+use Rattle.cone_walls.proofs.RoomAround.{high_point, point_within, room_at, fast_point, fast_between}
 use Rattle.cone_walls.proofs.lines.push_line.Goals as goal
 
 pub line-requires-clause-p_lengths : goal.line-requires-clause-p_lengths
@@ -61,8 +61,18 @@ line-requires-clause-room c =
     room_at p m c.args.room.now (point c.point-a.result.now) (point c.point-c.result.now) r.room (a.0 ∙ sym r.p_long) (x.0 ∙ sym r.p_long) (r.q_long ∙ sym r.p_long) (omega (arith, r.p_long, n)) a.1 x.1
     (high_point c.args.problem.now c.point-a.ensures.valid c.args.i c.args.pair.0 r.least r.greatest r.pair.0 r.pair.1 (point c.point-a.result.now) c.point-a.ensures.value)
     (high_point c.args.problem.now c.point-c.ensures.valid c.args.i c.args.position r.least r.greatest r.position.0 r.position.1 (point c.point-c.result.now) c.point-c.ensures.value)
-    (slow_between (point c.point-c.result.now).speed (point c.point-a.result.now).speed (slow_point c.args.problem.now c.point-c.ensures.valid c.args.i c.args.position r.least r.greatest r.position.0 r.position.1 (point c.point-c.result.now) c.point-c.ensures.value) (slow_point c.args.problem.now c.point-a.ensures.valid c.args.i c.args.pair.0 r.least r.greatest r.pair.0 r.pair.1 (point c.point-a.result.now) c.point-a.ensures.value))
+    (fast_between (point c.point-c.result.now).speed (point c.point-a.result.now).speed (fast_point c.args.problem.now c.point-c.ensures.valid c.args.i c.args.position r.least r.greatest r.position.0 r.position.1 (point c.point-c.result.now) c.point-c.ensures.value) (fast_point c.args.problem.now c.point-a.ensures.valid c.args.i c.args.pair.0 r.least r.greatest r.pair.0 r.pair.1 (point c.point-a.result.now) c.point-a.ensures.value))
     (λ k near. (
       point_within p c.point-a.ensures.valid c.args.i c.args.pair.0 r.least r.greatest r.pair.0 r.pair.1 (point c.point-a.result.now) c.point-a.ensures.value k near,
       point_within p c.point-c.ensures.valid c.args.i c.args.position r.least r.greatest r.position.0 r.position.1 (point c.point-c.result.now) c.point-c.ensures.value k near,
     ))
+
+pub line-requires-clause-a_fast : goal.line-requires-clause-a_fast
+line-requires-clause-a_fast c =
+    let r = c.requires in
+    fast_point c.args.problem.now c.point-a.ensures.valid c.args.i c.args.pair.0 r.least r.greatest r.pair.0 r.pair.1 (point c.point-a.result.now) c.point-a.ensures.value
+
+pub line-requires-clause-c_fast : goal.line-requires-clause-c_fast
+line-requires-clause-c_fast c =
+    let r = c.requires in
+    fast_point c.args.problem.now c.point-c.ensures.valid c.args.i c.args.position r.least r.greatest r.position.0 r.position.1 (point c.point-c.result.now) c.point-c.ensures.value

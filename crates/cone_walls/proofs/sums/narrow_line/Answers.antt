@@ -24,8 +24,10 @@ narrow_dots_between-alpha-requires-clause-p_room c =
 pub narrow_dots_between-alpha-requires-clause-q_room : goal.narrow_dots_between-alpha-requires-clause-q_room
 narrow_dots_between-alpha-requires-clause-q_room c =
     let fd : FitsSigned w64 c.args.copies.now.den = search rules in
+    let fa : FitsSigned w64 c.args.a.now.speed = search rules in
+    let fc : FitsSigned w64 c.args.c.now.speed = search rules in
     let fr : FitsSigned w64 c.haste.result = search rules in
     let fs : FitsSigned w64 c.scaled-other.result = search rules in
-    let r : c.haste.result ≡ pos c.args.c.now.speed -ℤ pos c.args.a.now.speed = c.haste.ensures in
+    let r : c.haste.result ≡ c.args.c.now.speed -ℤ c.args.a.now.speed = simp to_z-of_z at c.haste.ensures in
     let s : c.scaled-other.result ≡ c.args.copies.now.den *ℤ c.haste.result = simp to_z-of_z at c.scaled-other.ensures in
     simp to_z-of_z (rw (s, r, c.deref-2.ensures.value, c.as_slice.ensures.value, c.as_slice-2.ensures.value) c.requires.beta)

@@ -12,7 +12,7 @@ returns-clause-value c =
     let h = c.requires.copies in
     let ea : c.narrow_line.result.alpha ≡ alpha m a x = rw (h.0, h.1) at c.narrow_line.ensures.alpha in
     let eb : c.narrow_line.result.beta ≡ beta m a x = rw (h.0, h.2) at c.narrow_line.ensures.beta in
-    line_value m c.args.i c.args.position a x c.narrow_line.result c.narrow_line.ensures.support c.narrow_line.ensures.position ea eb (room_wider m a x c.requires.room)
+    line_value m c.args.i c.args.position a x c.narrow_line.result c.narrow_line.ensures.support c.narrow_line.ensures.position ea eb c.narrow_line.ensures.fine (room_wider m a x c.requires.room)
 
 pub returns-clause-fits : goal.returns-clause-fits
 returns-clause-fits c =
@@ -22,4 +22,4 @@ returns-clause-fits c =
     let h = c.requires.copies in
     let ea : c.narrow_line.result.alpha ≡ alpha m a x = rw (h.0, h.1) at c.narrow_line.ensures.alpha in
     let eb : c.narrow_line.result.beta ≡ beta m a x = rw (h.0, h.2) at c.narrow_line.ensures.beta in
-    line_fits m c.args.i c.args.position a x c.narrow_line.result c.narrow_line.ensures.support c.narrow_line.ensures.position ea eb (room_wider m a x c.requires.room)
+    line_fits m c.args.i c.args.position a x c.narrow_line.result c.narrow_line.ensures.support c.narrow_line.ensures.position ea eb c.narrow_line.ensures.fine (room_wider m a x c.requires.room)

@@ -1,0 +1,25 @@
+use Rattle.std.proofs.Common.{rules, ◌≡◌, ◌-◌, ◌≤◌, ◌∙◌, length, arith, ap, sym, subst, FitsSigned, to_z-of_z}
+use Rattle.std.specs.Int.{w128}
+use Rattle.int_vectors.specs.Fits.{AllFit}
+use Rattle.inner_normal.proofs.Reading.{support_read}
+use Rattle.cone_walls.proofs.Fining.{fine_is}
+use Rattle.cone_walls.proofs.fines.fine_of.Goals as goal
+
+pub parts_of-requires-clause-position : goal.parts_of-requires-clause-position
+parts_of-requires-clause-position c =
+    let f = c.requires.point.2 in
+    let p = c.args.problem.now in
+    (f.0, subst (λ s. c.args.position ≤ length s) (sym (support_read p.supports (c.args.support - 1))) f.1)
+
+pub returns : goal.returns
+returns c =
+    let a = c.requires.point.0 in
+    let b = c.requires.point.1 in
+    let e = c.in_ok-numbers.ensures in
+    let d = c.den-last.ensures in
+    let f : FitsSigned w128 c.den-last.result = search rules in
+    let s = c.as_slice-entries.ensures in (
+      e.value.0,
+      fine_is c.args.problem.now c.args.cell.now c.args.inverse.now (c.args.support - 1) c.args.position c.in_ok-numbers.numbers c.den-last.result c.from_vec.result e.valid c.requires.cell (omega (arith, a, b)) c.requires.point.2
+          e.value.1 (subst AllFit s.value s.fits) e.count e.last d.value d.fits (c.from_vec.ensures ∙ (simp to_z-of_z at c.in_ok-parts.ensures)),
+    )
