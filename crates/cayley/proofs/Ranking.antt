@@ -4,3 +4,4 @@ pub mod RankedProblems
 pub mod RankedFaults
 pub mod Numbering
 pub mod FirstRanks
+pub mod StoredProblems

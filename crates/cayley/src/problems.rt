@@ -7,7 +7,8 @@ ghost use Rattle.cayley.specs.Reaches.{IsWithinReach};
 ghost use Rattle.cayley.specs.Rows.{edge_row, edge_rows};
 ghost use Rattle.cayley.specs.Shapes.{AreSecondHeights, IsBetweenFault, IsProblemFault};
 ghost use Rattle.cayley.specs.Stored.{point, problem_of, version_of};
-ghost use Rattle.cayley.specs.Valid.{IsValidProblem, support_at, file_count_at};
+ghost use Rattle.cayley.specs.Valid.{IsCornerCoordinate, IsValidProblem, support_at, file_count_at};
+ghost use Rattle.int_vectors.specs.Vectors.{Each};
 
 use crate::cells::Cell;
 use crate::faults::ShapeFault;
@@ -183,7 +184,7 @@ impl Problem {
         requires greatest { i ≤ self.now.dimension }
         ensures { result ≡ length (support_at self.now i) }
     {
-        self.supports[i as usize - 1].points.len() as u32
+        self.support(i).points.len() as u32
     }
 
     /// The number of file points of support i, counted from 1.
@@ -192,7 +193,7 @@ impl Problem {
         requires greatest { i ≤ self.now.dimension }
         ensures { result ≡ file_count_at self.now i }
     {
-        self.supports[i as usize - 1].file
+        self.support(i).file
     }
 
     /// The point at a position of support i; both count from 1.
@@ -204,8 +205,7 @@ impl Problem {
         ensures value { point result.now ≡ with_rank 0 (point_at (support_at self.now i) position) }
         ensures valid { IsValidProblem self.now }
     {
-        let support = &self.supports[i as usize - 1];
-        &support.points[position as usize - 1]
+        &self.support(i).points[position as usize - 1]
     }
 
     /// The rank of the point at a position of support i; both count from 1. It is 0 in the first
@@ -218,10 +218,9 @@ impl Problem {
         requires last { position ≤ length (support_at self.now i) }
         ensures { result ≡ (point_at (support_at self.now i) position).rank }
     {
-        let place = i as usize - 1;
         match self.version {
             Version::First => 0,
-            Version::Second => rank_at(i, &self.supports[place], self.firsts[place], position),
+            Version::Second => rank_at(i, self.support(i), self.firsts[i as usize - 1], position),
         }
     }
 
@@ -231,7 +230,7 @@ impl Problem {
         requires greatest { i ≤ self.now.dimension }
         ensures { IsTrue result ↔ position ≤ file_count_at self.now i }
     {
-        position <= self.supports[i as usize - 1].file
+        position <= self.support(i).file
     }
 
     /// Whether the cell has n pairs and each position is at most its support's count.
@@ -262,7 +261,23 @@ impl Problem {
         ensures { let s = support_at self.now i in
             IfOk result (λ row. row ≡ edge_row self.now.dimension (i - 1) (point_at s pair.0) (point_at s pair.1)) }
     {
-        let place = i as usize - 1;
-        pair_row(alloc, self.dim, place, &self.supports[place].points, pair)
+        let points = &self.support(i).points;
+        pair_row(alloc, self.dim, i as usize - 1, points, pair)
+    }
+
+    // Support i, counted from 1.
+    fn support(&self, i: u32) -> &Support
+        requires least { 1 ≤ i }
+        requires greatest { i ≤ self.now.dimension }
+        ensures points { map point result.now.points.items ≡ map (with_rank 0) (support_at self.now i) }
+        ensures count { length result.now.points.items ≡ length (support_at self.now i) }
+        ensures file { result.now.file ≡ file_count_at self.now i }
+        ensures files { result.now.file ≤ 1000 }
+        ensures few { length result.now.points.items ≤ 2000 }
+        ensures small { All (λ x. (length x.coords ≡ self.now.dimension) × Each x.coords IsCornerCoordinate) result.now.points.items }
+        ensures dimension { self.now.dimension ≤ 16 }
+        ensures valid { IsValidProblem self.now }
+    {
+        &self.supports[i as usize - 1]
     }
 }

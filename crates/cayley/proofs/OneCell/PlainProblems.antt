@@ -1,7 +1,7 @@
 -- the problem of a file's points alone keeps what problems keep
 use Rattle.std.proofs.Common.{◌≡◌, ℕ, suc, ◌≤◌, List, [], ◌∷◌, length, map, take, drop, arith, refl, ap, sym, ◌∙◌, subst, inl}
 use Rattle.std.proofs.lemmas.List.{length-map, take_all, drop_all}
-use Rattle.std.proofs.Math.IntN.{pos}
+use Rattle.std.proofs.Math.IntN.{pos, ◌+ℤ◌}
 use Rattle.int_vectors.specs.Vectors.{Each}
 use Rattle.std.proofs.lemmas.Int.{ints}
 use Rattle.cayley.specs.Problems.{version1, Point, Problem, EachSupport, IsStill, with_rank, unperturbed}
@@ -79,7 +79,7 @@ unranked_valid file v = record {
 }
   where
     within : (x : FilePoint) → IsWithinFile x → IsWithinProblem (resting x)
-    within x w = (w.0, w.1, subst IsHeight (omega (arith, ints)) w.1)
+    within x w = let e : x.height ≡ x.height +ℤ pos 0 = omega (arith, ints) in (w.0, w.1, subst IsHeight e w.1)
 
 -- in each version
 pub plain_valid : (file : File) → IsValidFile file → IsValidProblem (plain_problem file)

@@ -1,6 +1,7 @@
 -- the first rank of each support
 use Rattle.std.proofs.Common.{◌≡◌, ℕ, zero, suc, ◌+◌, ◌*◌, ◌-◌, ◌<◌, ◌≤◌, ◌++◌, List, [], ◌∷◌, length, map, drop, arith, refl, sym, ap, ap₂, subst, ◌∙◌}
 use Rattle.std.specs.Prelude.{slice_index_or}
+use Rattle.std.proofs.lemmas.List.{drop_more, drop_all}
 use Rattle.int_vectors.specs.Vectors.{Each}
 use Rattle.cayley.specs.declared.points.Support.{Support}
 use Rattle.cayley.specs.Problems.{Point, numbered, numbered_supports}
@@ -41,26 +42,20 @@ firsts_few r (s ∷ ss) h (suc k) l =
 -- one more first rank
 pub next_first : (whole made new : List ℕ) (r : ℕ) (ss : List Support) (k : ℕ) (s : Support) → s ≡ slice_index_or ss k s → k < length ss
     → made ++ firsts_from r (drop k ss) ≡ whole → new ≡ made ++ r ∷ [] → new ++ firsts_from (r + ranks_of s) (drop (k + 1) ss) ≡ whole
-next_first whole made new r ss k s e l h n = rw n (append_more made r (firsts_from (r + ranks_of s) (drop (k + 1) ss)) ∙ ap (λ (t : List ℕ). made ++ t) (sym (step ss k e l)) ∙ h)
+next_first whole made new r ss k s e l h n =
+    let d = ap (firsts_from r) (drop_more ss k s l) in
+    let q : firsts_from (r + ranks_of (slice_index_or ss k s)) (drop (k + 1) ss) ≡ firsts_from (r + ranks_of s) (drop (k + 1) ss) =
+    ap (λ (y : Support). firsts_from (r + ranks_of y) (drop (k + 1) ss)) (sym e) in
+    ap (λ (t : List ℕ). t ++ firsts_from (r + ranks_of s) (drop (k + 1) ss)) n
+    ∙ append_more made r (firsts_from (r + ranks_of s) (drop (k + 1) ss)) ∙ ap (λ (t : List ℕ). made ++ r ∷ t) (sym q) ∙ ap (λ (t : List ℕ). made ++ t) (sym d) ∙ h
   where
     append_more : (xs : List ℕ) (x : ℕ) (ys : List ℕ) → (xs ++ x ∷ []) ++ ys ≡ xs ++ (x ∷ ys)
     append_more [] x ys = refl
     append_more (z ∷ xs) x ys = ap (λ l. z ∷ l) (append_more xs x ys)
 
-    step : (ss : List Support) (k : ℕ) → s ≡ slice_index_or ss k s → k < length ss → firsts_from r (drop k ss) ≡ r ∷ firsts_from (r + ranks_of s) (drop (k + 1) ss)
-    step [] k e l = absurd (omega (arith, l))
-    step (x ∷ ss) zero e l = ap (λ (y : Support). r ∷ firsts_from (r + ranks_of y) ss) (sym e)
-    step (x ∷ ss) (suc k) e l = step ss k e (omega (arith, l))
-
 pub last_first : (whole made : List ℕ) (r : ℕ) (ss : List Support) (k : ℕ) → length ss ≤ k → made ++ firsts_from r (drop k ss) ≡ whole → made ≡ whole
-last_first whole made r ss k l h = sym (end made) ∙ ap (λ (t : List ℕ). made ++ t) (sym (ap (firsts_from r) (past ss k l))) ∙ h
+last_first whole made r ss k l h = sym (end made) ∙ ap (λ (t : List ℕ). made ++ t) (sym (ap (firsts_from r) (drop_all k ss l))) ∙ h
   where
     end : (xs : List ℕ) → xs ++ [] ≡ xs
     end [] = refl
     end (x ∷ xs) = ap (λ l. x ∷ l) (end xs)
-
-    past : (ss : List Support) (k : ℕ) → length ss ≤ k → drop k ss ≡ []
-    past [] zero l = refl
-    past [] (suc k) l = refl
-    past (s ∷ ss) zero l = absurd (omega (arith, l))
-    past (s ∷ ss) (suc k) l = past ss k (omega (arith, l))

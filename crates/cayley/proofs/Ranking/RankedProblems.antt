@@ -92,7 +92,15 @@ module _ (n : ℕ) (fs : List ℕ) (ss us : List (List Point)) (same : map unran
       by (inl s) = inl (same_still v v s)
       by (inr e) = inr (e.0, same_lengths (λ f. f) e.1)
 
-  valid_by : (v w : Version) → IsValidProblem (made v ss) → HasProblemShape (made w us) → HasRanks (made w us) → IsValidProblem (made w us)
+  -- taken as version 1
+  pub first_shape : (v : Version) → HasProblemShape (made v ss) → HasProblemShape (made version1 us)
+  first_shape v h = shape_by v version1 h (by h.still)
+    where
+      by : IsStill (made v ss) ⊎ ((v ≡ version1) × HasNoCorners (made v ss)) → IsStill (made version1 us) ⊎ ((version1 ≡ version1) × HasNoCorners (made version1 us))
+      by (inl s) = inl (same_still v version1 s)
+      by (inr e) = inr (refl, same_lengths (λ f. f) e.1)
+
+  pub valid_by : (v w : Version) → IsValidProblem (made v ss) → HasProblemShape (made w us) → HasRanks (made w us) → IsValidProblem (made w us)
   valid_by v w h shape ranks = record {
     ranks = ranks;
     shape = shape;

@@ -117,3 +117,15 @@ counted dim supports m h k d l = (q.1, q.2, few h.1, q.4.0)
         → length (slice_index_or supports k d).points.items ≤ 2000
     few (inl c) = let e = c k d l in let n = q.1 in omega arith
     few (inr c) = let e = c k d l in let n = q.1 in omega arith
+
+-- file points that rest
+pub still_from : (dim : ℕ) (supports : List Support) → All (λ (s : Support). All (λ (x : StoredPoint). x.speed ≡ pos 0) (take s.file s.points.items)) supports → IsStill (unranked_of dim supports)
+still_from dim supports h =
+    support_from (λ (s : Support). All (λ (x : StoredPoint). x.speed ≡ pos 0) (take s.file s.points.items)) _
+    (λ i s q. subst (λ (ps : List Point). Each ps (λ (x : Point). x.speed ≡ pos 0)) (map_take point s.file s.points.items)
+    (speeds_from (pos 0) (take s.file s.points.items) (each_all _ (take s.file s.points.items) q))) 1 supports (each_all _ supports h)
+
+pub still_to : (dim : ℕ) (supports : List Support) → IsStill (unranked_of dim supports) → All (λ (s : Support). All (λ (x : StoredPoint). x.speed ≡ pos 0) (take s.file s.points.items)) supports
+still_to dim supports h = all_each _ supports (support_to (λ (s : Support). All (λ (x : StoredPoint). x.speed ≡ pos 0) (take s.file s.points.items)) _
+    (λ i s e. all_each _ (take s.file s.points.items) (speeds_to (pos 0) (take s.file s.points.items)
+    (subst (λ (ps : List Point). Each ps (λ (x : Point). x.speed ≡ pos 0)) (sym (map_take point s.file s.points.items)) e))) 1 supports h)

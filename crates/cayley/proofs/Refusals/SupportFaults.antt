@@ -1,6 +1,6 @@
 -- the faults of one support of a problem: of its file points, then of its corners
 use Rattle.std.proofs.Common.{◌≡◌, ℕ, ◌+◌, ◌-◌, ◌<◌, ◌≤◌, List, length, map, take, drop, arith, refl, ap, sym, ◌∙◌, subst, inl, inr, length-take-le, length-drop}
-use Rattle.std.specs.Prelude.{ℤ, pos, ◌+ℤ◌, slice_index_or}
+use Rattle.std.specs.Prelude.{pos, ◌+ℤ◌, slice_index_or}
 use Rattle.std.proofs.lemmas.Int.{ints}
 use Rattle.std.proofs.lemmas.Bool.{cases_lt}
 use Rattle.std.proofs.lemmas.List.{length-map}
@@ -42,7 +42,8 @@ module _ (f : ℕ) (s : List Point) (long : f ≤ length s) (rest : Each (take f
       let r = all_each (λ (x : Point). x.speed ≡ pos 0) (take f s) rest (q - 1) origin (omega arith) in
       let e = read_take s f (q - 1) origin (omega arith) in
       let z : (point_at s q).speed ≡ pos 0 = ap (λ (x : Point). x.speed) (sym e) ∙ r in
-      (w.0, w.1, subst IsHeight (let n = z in omega (arith, ints, n)) w.1)
+      let h : (point_at s q).base ≡ (point_at s q).base +ℤ (point_at s q).speed = omega (arith, ints, z) in
+      (w.0, w.1, subst IsHeight h w.1)
 
   out_to : (q : ℕ) → IsOutside files q → IsOutsideOf f s q
   out_to q o =
