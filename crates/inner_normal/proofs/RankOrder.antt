@@ -175,7 +175,7 @@ numbers_are i j c g (m ∷ ms) [] [] l n = absurd (omega (arith, l))
 numbers_are i j c g (m ∷ ms) [] (x ∷ cell) l n = absurd (omega (arith, n))
 numbers_are i j c g (m ∷ ms) (s ∷ supports) [] l n = absurd (omega (arith, l))
 numbers_are i j c g (m ∷ ms) (s ∷ supports) (x ∷ cell) l n =
-    let a = (ranked s x.0 m.0, ranked s x.1 m.1) in
+    let a : Ranked × Ranked = (ranked s x.0 m.0, ranked s x.1 m.1) in
     map-append (λ (y : Ranked). y.1) (if i == j then three x a c g else two a) (in_order (suc i) j c g (ranked_pairs ms supports cell) cell)
     ∙ ap₂ ◌++◌ (by (i == j)) (numbers_are (suc i) j c g ms supports cell (omega (arith, l)) (omega (arith, n)))
   where
@@ -207,7 +207,7 @@ sum_after e i j c g (m ∷ ms) [] [] b l n = absurd (omega (arith, l))
 sum_after e i j c g (m ∷ ms) [] (x ∷ cell) b l n = absurd (omega (arith, n))
 sum_after e i j c g (m ∷ ms) (s ∷ supports) [] b l n = absurd (omega (arith, l))
 sum_after e i j c g (m ∷ ms) (s ∷ supports) (x ∷ cell) b l n =
-    let a = (ranked s x.0 m.0, ranked s x.1 m.1) in
+    let a : Ranked × Ranked = (ranked s x.0 m.0, ranked s x.1 m.1) in
     let f = ne_eqb i j (λ h. omega (arith, h, b)) in
     let h = sum_after e (suc i) j c g ms supports cell (omega (arith, b)) (omega (arith, l)) (omega (arith, n)) in
     let t = sum_append e (two a) (in_order (suc i) j c g (ranked_pairs ms supports cell) cell) in
@@ -219,7 +219,7 @@ sum_is e i j c g ms supports [] b d l n = absurd (omega (arith, b, d))
 sum_is e i j c g [] supports (x ∷ cell) b d l n = absurd (omega (arith, l))
 sum_is e i j c g (m ∷ ms) [] (x ∷ cell) b d l n = absurd (omega (arith, n))
 sum_is e i j c g (m ∷ ms) (s ∷ supports) (x ∷ cell) b d l n =
-    let a = (ranked s x.0 m.0, ranked s x.1 m.1) in
+    let a : Ranked × Ranked = (ranked s x.0 m.0, ranked s x.1 m.1) in
     let rest = in_order (suc i) j c g (ranked_pairs ms supports cell) cell in
     elim (dec_le j i) [
       | yes k ↦
@@ -245,10 +245,10 @@ abbrev InRange : List Point → ℕ → ℕ → Type 0
 InRange s a b = (1 ≤ a) × (a < b) × (b ≤ length s)
 
 chain_two : (b n : ℕ) (x y : Ranked) (rest : List Ranked) → b ≤ x.0 → x.0 < y.0 → y.0 < b + n → Rise (b + n) rest → Rise b (x ∷ y ∷ rest)
-chain_two b n x y rest p q r h = (p, q, rise_weaker (suc y.0) (b + n) rest r h)
+chain_two b n x y rest p q r h = (p, (q, rise_weaker (suc y.0) (b + n) rest r h))
 
 chain_three : (b n : ℕ) (x y z : Ranked) (rest : List Ranked) → b ≤ x.0 → x.0 < y.0 → y.0 < z.0 → z.0 < b + n → Rise (b + n) rest → Rise b (x ∷ y ∷ z ∷ rest)
-chain_three b n x y z rest p q r s h = (p, q, r, rise_weaker (suc z.0) (b + n) rest s h)
+chain_three b n x y z rest p q r s h = (p, (q, (r, rise_weaker (suc z.0) (b + n) rest s h)))
 
 module _ (b : ℕ) (s : List Point) (ranks : (q : ℕ) → 1 ≤ q → q ≤ length s → (point_at s q).rank ≡ b + (q - 1)) (x : ℕ × ℕ) (m : ℤ × ℤ) (range : InRange s x.0 x.1) (rest : List Ranked) (r : Rise (b + length s) rest) where
   rise_two : Rise b (two (ranked s x.0 m.0, ranked s x.1 m.1) ++ rest)
@@ -291,19 +291,17 @@ rise_after b i j c g (m ∷ ms) (s ∷ supports) (x ∷ cell) l h e =
     let f = ne_eqb i j (λ k. omega (arith, k, l)) in
     rw f (rise_two b s h.0 x m e.0 (in_order (suc i) j c g (ranked_pairs ms supports cell) cell) (rise_after (b + length s) (suc i) j c g ms supports cell (omega (arith, l)) h.1 e.1))
 
-pub rise_is : (b i d c : ℕ) (g : ℤ) (ms : List (ℤ × ℤ)) (supports : List (List Point)) (cell : Cell) → HaveRanksFrom b supports → EachPair supports cell InRange
+pub rise_is : (b i d j c : ℕ) (g : ℤ) (ms : List (ℤ × ℤ)) (supports : List (List Point)) (cell : Cell) → j ≡ i + d → HaveRanksFrom b supports → EachPair supports cell InRange
     → IsFurther (support_at supports d) (pair_at cell d).0 (pair_at cell d).1 c
-    → Rise b (in_order i (i + d) c (ranked (support_at supports d) c g) (ranked_pairs ms supports cell) cell)
-rise_is b i d c g [] supports cell h e u = tt
-rise_is b i d c g (m ∷ ms) [] cell h e u = tt
-rise_is b i d c g (m ∷ ms) (s ∷ supports) [] h e u = tt
-rise_is b i zero c g (m ∷ ms) (s ∷ supports) (x ∷ cell) h e u =
-    let f = eq-eqb i (i + 0) (omega arith) in
-    rw f (rise_three b s h.0 x m e.0 (in_order (suc i) (i + 0) c (ranked s c g) (ranked_pairs ms supports cell) cell)
-    (rise_after (b + length s) (suc i) (i + 0) c (ranked s c g) ms supports cell (omega arith) h.1 e.1) c g u)
-rise_is b i (suc d) c g (m ∷ ms) (s ∷ supports) (x ∷ cell) h e u =
-    let f = ne_eqb i (i + suc d) (λ k. omega (arith, k)) in
-    let same : suc i + d ≡ i + suc d = omega arith in
-    let r = rise_is (b + length s) (suc i) d c g ms supports cell h.1 e.1 u in
-    rw f (rise_two b s h.0 x m e.0 (in_order (suc i) (i + suc d) c (ranked (support_at supports d) c g) (ranked_pairs ms supports cell) cell)
-    (subst (λ k. Rise (b + length s) (in_order (suc i) k c (ranked (support_at supports d) c g) (ranked_pairs ms supports cell) cell)) same r))
+    → Rise b (in_order i j c (ranked (support_at supports d) c g) (ranked_pairs ms supports cell) cell)
+rise_is b i d j c g [] supports cell k h e u = tt
+rise_is b i d j c g (m ∷ ms) [] cell k h e u = tt
+rise_is b i d j c g (m ∷ ms) (s ∷ supports) [] k h e u = tt
+rise_is b i zero j c g (m ∷ ms) (s ∷ supports) (x ∷ cell) k h e u =
+    let f = eq-eqb i j (omega (arith, k)) in
+    rw f (rise_three b s h.0 x m e.0 (in_order (suc i) j c (ranked s c g) (ranked_pairs ms supports cell) cell)
+    (rise_after (b + length s) (suc i) j c (ranked s c g) ms supports cell (omega (arith, k)) h.1 e.1) c g u)
+rise_is b i (suc d) j c g (m ∷ ms) (s ∷ supports) (x ∷ cell) k h e u =
+    let f = ne_eqb i j (λ n. omega (arith, k, n)) in
+    rw f (rise_two b s h.0 x m e.0 (in_order (suc i) j c (ranked (support_at supports d) c g) (ranked_pairs ms supports cell) cell)
+    (rise_is (b + length s) (suc i) d j c g ms supports cell (omega (arith, k)) h.1 e.1 u))
