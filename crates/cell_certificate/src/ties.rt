@@ -1,23 +1,20 @@
 ghost use Rattle.std.specs.Prelude.{◌≡◌, ◌+◌, ◌-◌, ◌*◌, ◌≤◌, ◌↔◌, ◌∷◌, [], pos, ◌<ℤ◌, ℕ, IsTrue, MatchResult, length};
 ghost use Rattle.int_vectors.specs.Vectors.{IsPositive};
 ghost use Rattle.reduced_rows.specs.Refusals.{IsFromFault};
-ghost use Rattle.cayley.specs.Cells.{IsIndependent};
 ghost use Rattle.cayley.specs.Files.{plain_problem};
 ghost use Rattle.cayley.specs.Problems.{version2};
 ghost use Rattle.inner_normal.specs.Coefficients.{numbers_of};
 ghost use Rattle.inner_normal.specs.Inverses.{IsInverseOf};
 ghost use Rattle.inner_normal.specs.Orders as orders;
 ghost use Rattle.inner_normal.specs.Orders.{ordered};
-ghost use Rattle.cell_certificate.specs.Sums.{FitsSums};
-ghost use Rattle.cell_certificate.specs.Tests.{IsLevelAt};
-ghost use Rattle.cell_certificate.specs.Ties.{leading, FitsTieAt, IsOverAt, FitTies, AreOver};
-ghost use Rattle.cell_certificate.specs.Written.{IsListed};
+ghost use Rattle.cell_certificate.specs.Ties.{leading, IsLevelLine, FitsTieAt, IsOverAt, FitTies, AreOver};
 
 use crate::sides::rise;
 use cayley::{Cell, LiftFile, Problem};
-use inner_normal::{FromFault, ScaledInverse, coefficients_at};
+use inner_normal::{ScaledInverse, coefficients_at};
 use int_vectors::IntVec;
 use listing_text::ListedCell;
+use reduced_rows::FromFault;
 use std::alloc::Global;
 
 // The first of three numbers that isn't 0, or 0.
@@ -83,13 +80,10 @@ fn is_point_over(
     support: u32,
     position: u32,
 ) -> Result<bool, FromFault>
-    requires listed { IsListed (plain_problem file.now) listed.now }
     requires same { problem.now ≡ plain_problem file.now }
     requires version { file.now.version ≡ version2 }
+    requires level { IsLevelLine problem.now listed.now }
     requires inverse { IsInverseOf problem.now listed.now.cell inverse.now }
-    requires independent { IsIndependent problem.now listed.now.cell }
-    requires sums { FitsSums problem.now listed.now.cell listed.now.normal.v listed.now.normal.den }
-    requires level { IsLevelAt problem.now listed.now.cell listed.now.normal.v listed.now.normal.den }
     requires support { (1 ≤ support) × (support ≤ problem.now.dimension) }
     requires position { 1 ≤ position }
     ensures { let p = problem.now in let x = listed.now in
@@ -123,13 +117,10 @@ fn is_support_over(
     listed: &ListedCell,
     support: u32,
 ) -> Result<bool, FromFault>
-    requires listed { IsListed (plain_problem file.now) listed.now }
     requires same { problem.now ≡ plain_problem file.now }
     requires version { file.now.version ≡ version2 }
+    requires level { IsLevelLine problem.now listed.now }
     requires inverse { IsInverseOf problem.now listed.now.cell inverse.now }
-    requires independent { IsIndependent problem.now listed.now.cell }
-    requires sums { FitsSums problem.now listed.now.cell listed.now.normal.v listed.now.normal.den }
-    requires level { IsLevelAt problem.now listed.now.cell listed.now.normal.v listed.now.normal.den }
     requires support { (1 ≤ support) × (support ≤ problem.now.dimension) }
     ensures { let p = problem.now in let x = listed.now in
         let fits = (c : ℕ) → FitsTieAt p x.cell x.normal.v x.normal.den inverse.now (support - 1) c in MatchResult result
@@ -154,13 +145,10 @@ pub(crate) fn are_over(
     inverse: &ScaledInverse,
     listed: &ListedCell,
 ) -> Result<bool, FromFault>
-    requires listed { IsListed (plain_problem file.now) listed.now }
     requires same { problem.now ≡ plain_problem file.now }
     requires version { file.now.version ≡ version2 }
+    requires level { IsLevelLine problem.now listed.now }
     requires inverse { IsInverseOf problem.now listed.now.cell inverse.now }
-    requires independent { IsIndependent problem.now listed.now.cell }
-    requires sums { FitsSums problem.now listed.now.cell listed.now.normal.v listed.now.normal.den }
-    requires level { IsLevelAt problem.now listed.now.cell listed.now.normal.v listed.now.normal.den }
     ensures { let p = problem.now in let x = listed.now in
         let fits = FitTies p x.cell x.normal.v x.normal.den inverse.now in MatchResult result
         (λ over. fits × (IsTrue over ↔ AreOver p x.cell))
