@@ -17,3 +17,6 @@ pub mod FirstEntries
 pub mod Blind
 pub mod Over
 pub mod PlainSums
+pub mod Circuits
+pub mod Spots
+pub mod PointOver

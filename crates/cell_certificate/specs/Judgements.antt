@@ -51,10 +51,10 @@ abbrev pub IsJudged : Problem → Option Cell → ListedCell → Judgement → T
 IsJudged p before x Order = ¬ (Follows before x.cell)
 IsJudged p before x Dependent = Follows before x.cell × FitsRows p x × ¬ (IsIndependent p x.cell)
 IsJudged p before x Unfit = (Follows before x.cell × ¬ (FitsRows p x)) ⊎ (HasGoodCell p before x × IsNormalJudged p x Unfit)
-IsJudged p before x NotLevel = HasGoodCell p before x × IsNormalJudged p x NotLevel
-IsJudged p before x NotLess = HasGoodCell p before x × IsNormalJudged p x NotLess
-IsJudged p before x NotLowest = HasGoodCell p before x × IsNormalJudged p x NotLowest
-IsJudged p before x Passes = HasGoodCell p before x × IsNormalJudged p x Passes
+IsJudged p before x NotLevel = HasGoodCell p before x × HasSums p x × ¬ (HasLevel p x)
+IsJudged p before x NotLess = HasGoodCell p before x × HasSums p x × HasLevel p x × HasTies p x × ¬ (HasLeast p x)
+IsJudged p before x NotLowest = HasGoodCell p before x × HasSums p x × HasLevel p x × HasTies p x × HasLeast p x × ¬ (HasLowest x)
+IsJudged p before x Passes = HasGoodCell p before x × HasSums p x × HasLevel p x × HasTies p x × HasLeast p x × HasLowest x
 
 -- every line passes, after the cell of the line before
 abbrev pub AllPass : Problem → Option Cell → List ListedCell → Type 0

@@ -1,4 +1,4 @@
-ghost use Rattle.std.specs.Prelude.{◌≡◌, ◌+◌, ◌-◌, ◌*◌, ◌≤◌, ◌↔◌, ◌∷◌, [], pos, ◌<ℤ◌, ℕ, IsTrue, MatchResult, length};
+ghost use Rattle.std.specs.Prelude.{◌≡◌, ◌==◌, if◌then◌else◌, ◌+◌, ◌-◌, ◌*◌, ◌≤◌, ◌↔◌, ◌∷◌, [], pos, ◌<ℤ◌, ℕ, IsTrue, MatchResult, length};
 ghost use Rattle.int_vectors.specs.Vectors.{IsPositive};
 ghost use Rattle.reduced_rows.specs.Refusals.{IsFromFault};
 ghost use Rattle.cayley.specs.Files.{plain_problem};
@@ -45,6 +45,26 @@ fn three(pair: (u32, u32), numbers: (i128, i128), position: u32, last: i128) -> 
     }
 }
 
+// The first number that isn't 0 of the points of the support at place `k`, in order of position, or 0.
+// The further point is of `support`.
+fn leading_at(
+    k: usize,
+    support: u32,
+    pair: (u32, u32),
+    numbers: (i128, i128),
+    position: u32,
+    last: i128,
+) -> i128
+    requires { 1 ≤ support }
+    ensures { result ≡ leading (if k == support - 1 then orders.three pair numbers position last else orders.two numbers) }
+{
+    if k == support as usize - 1 {
+        leading_of(three(pair, numbers, position, last))
+    } else {
+        leading_of([numbers.0, numbers.1, 0])
+    }
+}
+
 // Whether the first number of a circuit that isn't 0, in order of support and position, is positive.
 // The further point is that of `support` at `position`, which count from 1.
 fn is_circuit_positive(cell: &Cell, support: u32, position: u32, coefficients: &IntVec) -> bool
@@ -56,11 +76,7 @@ fn is_circuit_positive(cell: &Cell, support: u32, position: u32, coefficients: &
     let last = coefficients.get(2 * pairs.len());
     for k in 0..pairs.len() {
         let numbers = (coefficients.get(2 * k), coefficients.get(2 * k + 1));
-        let first = if k + 1 == support as usize {
-            leading_of(three(pairs[k], numbers, position, last))
-        } else {
-            leading_of([numbers.0, numbers.1, 0])
-        };
+        let first = leading_at(k, support, pairs[k], numbers, position, last);
         if first != 0 {
             return first > 0;
         }
