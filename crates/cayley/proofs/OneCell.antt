@@ -1,6 +1,7 @@
 -- one cell: its rows, normals, dependencies and lines
 pub mod CellOrder
 pub mod PlainProblems
+pub mod MovedProblems
 pub mod EdgeRows
 pub mod CellNormals
 pub mod CellLines

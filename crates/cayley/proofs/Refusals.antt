@@ -6,3 +6,4 @@ pub mod Stable
 pub mod SupportFaults
 pub mod ProblemShapes
 pub mod ProblemFaults
+pub mod SecondHeights

@@ -1,33 +1,34 @@
 -- What the types of cells, files and problems keep.
 use Rattle.std.specs.Prelude.{◌≡◌, ◌≢◌, ◌⊎◌, ℕ, ◌<◌, ◌≤◌, ◌-◌, List, [], MatchOption, length, map, take, drop, ℤ, pos, ◌+ℤ◌, ◌≤ℤ◌, unsigned_abs, slice_index_or}
 use Rattle.int_vectors.specs.Vectors.{Each}
+use Rattle.cayley.specs.declared.limits.TheConstants.{DIMENSIONS, POINTS, COORDINATE, HEIGHT, CORNER}
 use Rattle.cayley.specs.Cells.{Cell, IsCell}
 use Rattle.cayley.specs.Files.{FilePoint, File}
 use Rattle.cayley.specs.Problems.{version1, Point, Problem, IsProblem, EachSupport, HasNoCorners, HasCorners, IsStill, HasRanks}
 
 -- one to sixteen pairs, each of which rises
 abbrev pub IsValidCell : Cell → Type 0
-IsValidCell cell = (1 ≤ length cell) × (length cell ≤ 16) × IsCell cell
+IsValidCell cell = (1 ≤ length cell) × (length cell ≤ DIMENSIONS) × IsCell cell
 
 -- the least and the greatest coordinate of a file point are -1,000,000 and 1,000,000
 abbrev pub IsCoordinate : ℤ → Type 0
-IsCoordinate z = unsigned_abs z ≤ 1000000
+IsCoordinate z = unsigned_abs z ≤ COORDINATE
 
 -- a height is from -1,000,000,000 to 1,000,000,000
 abbrev pub IsHeight : ℤ → Type 0
-IsHeight z = unsigned_abs z ≤ 1000000000
+IsHeight z = unsigned_abs z ≤ HEIGHT
 
 -- a start height is from 1 to 1,000,000,000
 abbrev pub IsStart : ℤ → Type 0
-IsStart z = (pos 1 ≤ℤ z) × (z ≤ℤ pos 1000000000)
+IsStart z = (pos 1 ≤ℤ z) × (z ≤ℤ pos HEIGHT)
 
 -- a coordinate of a corner is from -33,000,000 to 33,000,000
 abbrev pub IsCornerCoordinate : ℤ → Type 0
-IsCornerCoordinate z = unsigned_abs z ≤ 33000000
+IsCornerCoordinate z = unsigned_abs z ≤ CORNER
 
 -- a base of a corner is from 0 to 1,000,000,000
 abbrev pub IsCornerBase : ℤ → Type 0
-IsCornerBase z = (pos 0 ≤ℤ z) × (z ≤ℤ pos 1000000000)
+IsCornerBase z = (pos 0 ≤ℤ z) × (z ≤ℤ pos HEIGHT)
 
 -- no two of the lists are equal
 abbrev pub AreDistinct : List (List ℤ) → Type 0
@@ -39,9 +40,9 @@ IsWithinFile x = Each x.coordinates IsCoordinate × IsHeight x.height
 
 -- dimension, counts and lengths of a file's lists
 pub record HasFileShape (file : File) : Type 0 where
-  pub dimension : (1 ≤ file.dimension) × (file.dimension ≤ 16)
+  pub dimension : (1 ≤ file.dimension) × (file.dimension ≤ DIMENSIONS)
   pub supports : length file.supports ≡ file.dimension
-  pub counts : Each file.supports (λ s. (1 ≤ length s) × (length s ≤ 1000))
+  pub counts : Each file.supports (λ s. (1 ≤ length s) × (length s ≤ POINTS))
   pub points : Each file.supports (λ s. Each s (λ (x : FilePoint). length x.coordinates ≡ file.dimension))
   pub starts : MatchOption file.starts (Unit {0}) (λ starts. (length starts ≡ file.dimension) × Each starts (λ s. length s ≡ file.dimension - 1))
 
@@ -73,9 +74,9 @@ pub record IsStillProblem (p : Problem) : Type 0 where
 
 -- dimension, counts, lengths and speeds of a problem; file points move only in version 1 and without corners
 pub record HasProblemShape (p : Problem) : Type 0 where
-  pub dimension : (1 ≤ p.dimension) × (p.dimension ≤ 16)
+  pub dimension : (1 ≤ p.dimension) × (p.dimension ≤ DIMENSIONS)
   pub problem : IsProblem p
-  pub counts : Each p.files (λ f. (1 ≤ f) × (f ≤ 1000))
+  pub counts : Each p.files (λ f. (1 ≤ f) × (f ≤ POINTS))
   pub corners : HasCorners p
   pub still : IsStill p ⊎ ((p.version ≡ version1) × HasNoCorners p)
   pub moving : IsMoving p

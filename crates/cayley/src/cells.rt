@@ -4,6 +4,7 @@ ghost use Rattle.cayley.specs.Cells.{IsCell, IsLess};
 ghost use Rattle.cayley.specs.Valid.{IsValidCell};
 ghost use Rattle.cayley.specs.Flips.{put_pair};
 
+use crate::limits::DIMENSIONS;
 use smallvec::SmallVec;
 use std::alloc::Global;
 use std::cmp::Ordering;
@@ -38,7 +39,7 @@ fn all_rise(pairs: &[(u32, u32)]) -> bool
 fn is_valid(pairs: &[(u32, u32)]) -> bool
     ensures { IsTrue result ↔ IsValidCell pairs.now }
 {
-    1 <= pairs.len() && pairs.len() <= 16 && all_rise(pairs)
+    1 <= pairs.len() && pairs.len() <= DIMENSIONS && all_rise(pairs)
 }
 
 impl Cell {

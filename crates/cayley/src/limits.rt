@@ -31,32 +31,32 @@ pub(crate) fn are_within(coords: &[i128], most: u128) -> bool
 pub(crate) fn is_within_file(x: &FilePoint) -> bool
     ensures { IsTrue result ↔ IsWithinFile (file_point x.now) }
 {
-    are_within(x.coords.as_slice(), 1_000_000) && x.height.unsigned_abs() <= 1_000_000_000
+    are_within(x.coords.as_slice(), COORDINATE) && x.height.unsigned_abs() <= HEIGHT
 }
 
 /// Whether the numbers of a file point of a problem that rests are within their limits.
 pub(crate) fn is_within_resting(x: &Point) -> bool
     ensures { IsTrue result ↔ IsWithinFile (held (point x.now)) }
 {
-    are_within(x.coords.as_slice(), 1_000_000) && x.base.unsigned_abs() <= 1_000_000_000
+    are_within(x.coords.as_slice(), COORDINATE) && x.base.unsigned_abs() <= HEIGHT
 }
 
 fn is_corner_base(base: i64) -> bool
     ensures { IsTrue result ↔ IsCornerBase base }
 {
-    0 <= base && base <= 1_000_000_000
+    0 <= base && base <= HEIGHT as i64
 }
 
 /// Whether the numbers of a corner are within their limits.
 pub(crate) fn is_within_corners(x: &Point) -> bool
     ensures { IsTrue result ↔ IsWithinCorners (point x.now) }
 {
-    are_within(x.coords.as_slice(), 33_000_000) && is_corner_base(x.base)
+    are_within(x.coords.as_slice(), CORNER) && is_corner_base(x.base)
 }
 
 /// Whether start heights are within their limits.
 pub(crate) fn are_starts(heights: &[i64]) -> bool
     ensures { IsTrue result ↔ Each heights.now IsStart }
 {
-    heights.iter().all(|z| 1 <= *z && *z <= 1_000_000_000)
+    heights.iter().all(|z| 1 <= *z && *z <= HEIGHT as i64)
 }

@@ -7,7 +7,7 @@ ghost use Rattle.cayley.specs.Valid.{HasProblemShape, IsValidProblem, IsWithinCo
 ghost use Rattle.int_vectors.specs.Vectors.{Each};
 
 use crate::faults::ShapeFault;
-use crate::limits::{is_within_corners, is_within_resting};
+use crate::limits::{is_within_corners, is_within_resting, DIMENSIONS, POINTS};
 use crate::points::{Point, Support};
 use std::alloc::Global;
 use std::collections::BTreeSet;
@@ -69,7 +69,7 @@ fn has_points(dim: usize, support: &Support) -> bool
 {
     let file = support.file as usize;
     1 <= file
-        && file <= 1000
+        && file <= POINTS
         && file <= support.points.len()
         && have_coords(dim, &support.points)
         && have_speeds(file, &support.points)
@@ -144,7 +144,7 @@ fn check_support(alloc: Global, i: u32, support: &Support) -> Result<(), ShapeFa
 fn is_dimension(dim: usize) -> bool
     ensures { IsTrue result ↔ ((1 ≤ dim) × (dim ≤ 16)) }
 {
-    1 <= dim && dim <= 16
+    1 <= dim && dim <= DIMENSIONS
 }
 
 // Whether dimension and supports have the shape of a problem.

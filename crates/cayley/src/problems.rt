@@ -143,8 +143,9 @@ impl Problem {
         ensures { let given = map (λ s. s.items) second.now in
             MatchResult result (λ p. AreSecondHeights file.now given × (p ≡ between_problem file.now given)) (IsBetweenFault file.now given) }
     {
-        check_second(file.supports(), second)?;
-        let supports = moved_supports(alloc, file.supports(), second)?;
+        let points = file.supports();
+        check_second(points, second)?;
+        let supports = moved_supports(alloc, points, second)?;
         let problem = Problem::of_parts(alloc, Version::First, file.dim(), supports)?;
         Ok(problem)
     }

@@ -72,6 +72,20 @@ pub(crate) fn check_second(supports: &[Vec<FilePoint>], second: &[Vec<i64>]) -> 
     }
 }
 
+// The point with its height at time 0 and this one at time 1.
+fn moved(alloc: Global, x: &FilePoint, second: i64) -> Result<Point, OutOfMemory>
+    requires first { IsHeight x.now.height }
+    requires second { IsHeight second }
+    ensures { IfOk result (λ made. point made ≡ files.moved (file_point x.now) second) }
+{
+    let coords = x.coords.copy(alloc)?;
+    Ok(Point {
+        coords,
+        base: x.height,
+        speed: second - x.height,
+    })
+}
+
 // The points with their heights at time 0 and these at time 1.
 fn moved_points(
     alloc: Global,
@@ -87,11 +101,7 @@ fn moved_points(
         return Err(OutOfMemory);
     };
     for (k, x) in points.iter().enumerate() {
-        let point = Point {
-            coords: x.coords.copy(alloc)?,
-            base: x.height,
-            speed: second[k] - x.height,
-        };
+        let point = moved(alloc, x, second[k])?;
         if let Err(_) = made.push(point) {
             return Err(OutOfMemory);
         }

@@ -8,7 +8,7 @@ ghost use Rattle.int_vectors.specs.Vectors.{Each};
 ghost use Rattle.cayley.specs.Valid.{HasFileShape, IsStart, IsValidFile};
 
 use crate::faults::ShapeFault;
-use crate::limits::{are_starts, is_within_file};
+use crate::limits::{are_starts, is_within_file, DIMENSIONS, POINTS};
 use crate::points::FilePoint;
 use std::alloc::Global;
 use std::collections::BTreeSet;
@@ -17,7 +17,7 @@ use std::collections::BTreeSet;
 fn has_points(dim: usize, points: &[FilePoint]) -> bool
     ensures { IsTrue result ↔ ((1 ≤ length points.now) × (length points.now ≤ 1000) × All (λ x. length x.coords ≡ dim) points.now) }
 {
-    1 <= points.len() && points.len() <= 1000 && points.iter().all(|x| x.coords.len() == dim)
+    1 <= points.len() && points.len() <= POINTS && points.iter().all(|x| x.coords.len() == dim)
 }
 
 fn have_points(dim: usize, supports: &[Vec<FilePoint>]) -> bool
@@ -42,7 +42,7 @@ fn has_supports(dim: usize, supports: &[Vec<FilePoint>]) -> bool
     ensures { IsTrue result ↔ ((1 ≤ dim) × (dim ≤ 16) × (length supports.now ≡ dim)
         × All (λ s. (1 ≤ length s.items) × (length s.items ≤ 1000) × All (λ x. length x.coords ≡ dim) s.items) supports.now) }
 {
-    1 <= dim && dim <= 16 && supports.len() == dim && have_points(dim, supports)
+    1 <= dim && dim <= DIMENSIONS && supports.len() == dim && have_points(dim, supports)
 }
 
 // Whether dimension, supports and start heights have the shape of a lift file.

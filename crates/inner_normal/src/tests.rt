@@ -8,7 +8,7 @@ use std::alloc::Global;
 use std::test::Fail;
 
 // Two squares, and the corners of their path.
-const FIRST: [(&[i128], i64, u8); 7] = [
+const FIRST: [(&[i128], i64, i64); 7] = [
     (&[0, 0], 3, 0),
     (&[1, 0], 10, 0),
     (&[0, 1], 20, 0),
@@ -18,7 +18,7 @@ const FIRST: [(&[i128], i64, u8); 7] = [
     (&[0, 2], 100, 1),
 ];
 
-const SECOND: [(&[i128], i64, u8); 7] = [
+const SECOND: [(&[i128], i64, i64); 7] = [
     (&[0, 0], 5, 0),
     (&[1, 0], 40, 0),
     (&[0, 1], 9, 0),
@@ -33,7 +33,7 @@ const PRIMES: [i128; 7] = [
     1_999_993, 1_999_979, 1_999_969, 1_999_957, 1_999_891, 1_999_889, 1_999_871,
 ];
 
-fn support(alloc: Global, given: &[(&[i128], i64, u8)], file: u32) -> Result<Support, Fail> {
+fn support(alloc: Global, given: &[(&[i128], i64, i64)], file: u32) -> Result<Support, Fail> {
     let mut points = Vec::new(alloc);
     for (coords, base, speed) in given {
         let coords = IntVec::from_slice(alloc, coords)?;

@@ -4,7 +4,7 @@ use Rattle.std.proofs.lemmas.List.{length-map, take_all, drop_all}
 use Rattle.std.proofs.Math.IntN.{pos, ◌+ℤ◌}
 use Rattle.int_vectors.specs.Vectors.{Each}
 use Rattle.std.proofs.lemmas.Int.{ints}
-use Rattle.cayley.specs.Problems.{version1, Point, Problem, EachSupport, IsStill, with_rank, unperturbed}
+use Rattle.cayley.specs.Problems.{Version, version1, Point, Problem, EachSupport, IsStill, with_rank, ranked_supports, unperturbed}
 use Rattle.cayley.specs.Files.{FilePoint, File, resting, plain_problem}
 use Rattle.cayley.specs.declared.points.FilePoint.{FilePoint as StoredFilePoint}
 use Rattle.cayley.specs.Stored.{file_point}
@@ -99,3 +99,8 @@ module _ {X : Type 0} (items : X → List StoredFilePoint) (stored : List X) (su
   pub points_of : map (λ s. map (λ x. resting (file_point x)) (items s)) stored ≡ resting_all supports
   points_of = map_same (λ s. map (λ x. resting (file_point x)) (items s)) (λ s. map resting (map file_point (items s))) (λ s. sym (map_map resting file_point (items s))) stored
       ∙ sym (map_map (map resting) (λ s. map file_point (items s)) stored) ∙ ap resting_all is
+
+pub alike : {v v' : Version} {d d' : ℕ} {fs fs' : List ℕ} {ss ss' : List (List Point)} → v ≡ v' → d ≡ d' → fs ≡ fs' → ss ≡ ss'
+    → let made : Problem = record { version = v; dimension = d; files = fs; supports = ranked_supports v fs ss } in
+    let other : Problem = record { version = v'; dimension = d'; files = fs'; supports = ranked_supports v' fs' ss' } in made ≡ other
+alike o p q r = λ i. record { version = o i; dimension = p i; files = q i; supports = ranked_supports (o i) (q i) (r i) }

@@ -1,6 +1,7 @@
+use Rattle.std.proofs.Common.{arith}
 use Rattle.std.proofs.lemmas.Result.{err_from_is_err_and}
 use Rattle.cayley.specs.Problems.{version1}
-use Rattle.cayley.proofs.Refusals.FileShapes.{given, few_points, few_starts, same_points}
+use Rattle.cayley.proofs.Refusals.FileShapes.{given, shape_to, few_points, few_starts, same_points}
 use Rattle.cayley.proofs.Refusals.FileFaults.{file_fault, start_fault, file_valid}
 use Rattle.cayley.proofs.shapes.check_file.Goals as goal
 
@@ -30,3 +31,10 @@ returns-in-None c version =
     file_valid (given (λ s. s.items) (λ s. s.items) (λ ss. ss.items) version c.args.dim c.args.supports.now c.args.starts.now) _
     (same_points (λ s. s.items) (λ s. s.items) (λ ss. ss.items) version c.args.dim c.args.supports.now c.args.starts.now)
     ((c.has_file_shape.ensures version).0 c.if-not-has_file_shape.false) c.in_ok-check_points.ensures c.in-None.ensures
+
+pub check_points-requires-clause-few : goal.check_points-requires-clause-few
+check_points-requires-clause-few c =
+    let h = (shape_to (λ s. s.items) (λ s. s.items) (λ ss. ss.items) version1 c.args.dim c.args.supports.now c.args.starts.now ((c.has_file_shape.ensures version1).0 c.if-not-has_file_shape.false)).0 in
+    let a = h.1 in
+    let b = h.2 in
+    omega (arith, a, b)
