@@ -1,5 +1,5 @@
 -- what is found of one point: it isn't a further one, its sum isn't 0, or its circuit tells
-use Rattle.std.proofs.Common.{◌≡◌, ◌≢◌, ◌↔◌, ℕ, suc, ◌+◌, ◌-◌, ◌<◌, ◌≤◌, Bool, true, List, [], ◌∷◌, length, map, get_or, arith, refl, sym, ap, subst, ◌∙◌, ◌<ℤ◌}
+use Rattle.std.proofs.Common.{rules, ◌≡◌, ◌≢◌, ◌↔◌, ℕ, suc, ◌+◌, ◌-◌, ◌<◌, ◌≤◌, Bool, true, List, [], ◌∷◌, length, map, get_or, arith, refl, sym, ap, subst, ◌∙◌, ◌<ℤ◌}
 use Rattle.std.specs.Prelude.{IsTrue}
 use Rattle.std.proofs.lemmas.Int.{ints}
 use Rattle.std.proofs.Math.IntN.{ℤ, pos}
@@ -26,7 +26,7 @@ use Rattle.cell_certificate.specs.Ties.{IsLevelLine, FitsTieAt, IsOverAt}
 use Rattle.cell_certificate.proofs.Levels.{level_from}
 use Rattle.cell_certificate.proofs.Over.{over_up, over_not, over_tie}
 use Rattle.cell_certificate.proofs.PlainPoints.{valid_of, plain_ranks}
-use Rattle.cell_certificate.proofs.Spots.{pair_place, support_count, sum_seen, fit_seen}
+use Rattle.cell_certificate.proofs.Spots.{pair_place, each_pair_place, support_count, sum_seen, fit_seen}
 
 module _ (file : File) (valid : IsValidFile file) (p : Problem) (same : p ≡ plain_problem file) (x : ListedCell) (line : IsLevelLine p x) (support : ℕ) (least : 1 ≤ support) (most : support ≤ p.dimension) where
   abbrev j : ℕ
@@ -57,6 +57,16 @@ module _ (file : File) (valid : IsValidFile file) (p : Problem) (same : p ≡ pl
 
     count : length (support_at p.supports j) ≡ length points
     count = support_count file valid p same j in_file points e
+
+    -- the first point of the pair is there
+    pub pair_first : (pair.0 ≡ (pair.0 - 1) + 1) × (pair.0 - 1 < length points)
+    pair_first =
+        let r = subst (λ (q : ℕ × ℕ). (1 ≤ q.0) × (q.0 < q.1) × (q.1 ≤ length (support_at p.supports j))) pair_is
+        (each_pair_place (λ s a b. (1 ≤ a) × (a < b) × (b ≤ length s)) p.supports x.cell j line.0.0 in_cell) in
+        let a = r.0 in
+        let b = r.1 in
+        let c = r.2 in
+        (omega (arith, a), omega (arith, a, b, c, count))
 
     pub not_first : (c : ℕ) → c ≡ pair.0 → ¬ (IsFurtherAt p x.cell j c)
     not_first c h f = f.2 (h ∙ ap (λ (q : ℕ × ℕ). q.0) (sym pair_is))
