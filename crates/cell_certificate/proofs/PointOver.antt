@@ -35,7 +35,7 @@ module _ (file : File) (valid : IsValidFile file) (p : Problem) (same : p ≡ pl
   well : IsProblem p
   well = subst IsProblem (sym same) (valid_of file valid).shape.problem
 
-  in_file : j < file.dimension
+  pub in_file : j < file.dimension
   in_file = let d = ap (λ (q : Problem). q.dimension) same in omega (arith, d, least, most)
 
   pub in_cell : j < length x.cell
@@ -90,7 +90,7 @@ module _ (file : File) (valid : IsValidFile file) (p : Problem) (same : p ≡ pl
       from : (pair_at x.cell j).0 ≡ first + 1
       from = ap (λ (q : ℕ × ℕ). q.0) pair_is ∙ ha
 
-      seen_is : rise x.normal.den x.normal.v (seen a) (seen y) ≡ sum_of p x.cell x.normal.v x.normal.den j c
+      pub seen_is : rise x.normal.den x.normal.v (seen a) (seen y) ≡ sum_of p x.cell x.normal.v x.normal.den j c
       seen_is = sum_seen file valid p same j in_file points e x.cell x.normal.v x.normal.den c first place a y from ma ia hy my iy
 
       -- its sum fits

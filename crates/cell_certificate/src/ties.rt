@@ -120,7 +120,10 @@ fn is_point_over(
         return Ok(sum > 0);
     }
     let coefficients =
-        coefficients_at(alloc, problem, &listed.cell, inverse, support, position)?;
+        match coefficients_at(alloc, problem, &listed.cell, inverse, support, position) {
+            Ok(made) => made,
+            Err(fault) => return Err(fault),
+        };
     Ok(is_circuit_positive(&listed.cell, support, position, &coefficients))
 }
 
@@ -146,7 +149,11 @@ fn is_support_over(
     let count = file.support(support).len() as u32;
     let mut over = true;
     for k in 0..count {
-        over = is_point_over(alloc, file, problem, inverse, listed, support, k + 1)? && over;
+        let own = match is_point_over(alloc, file, problem, inverse, listed, support, k + 1) {
+            Ok(own) => own,
+            Err(fault) => return Err(fault),
+        };
+        over = own && over;
     }
     Ok(over)
 }
@@ -172,7 +179,11 @@ pub(crate) fn are_over(
 {
     let mut over = true;
     for k in 0..problem.dim() {
-        over = is_support_over(alloc, file, problem, inverse, listed, k as u32 + 1)? && over;
+        let own = match is_support_over(alloc, file, problem, inverse, listed, k as u32 + 1) {
+            Ok(own) => own,
+            Err(fault) => return Err(fault),
+        };
+        over = own && over;
     }
     Ok(over)
 }
