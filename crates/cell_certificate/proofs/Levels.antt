@@ -16,7 +16,7 @@ use Rattle.cayley.proofs.OneCell.RestingGaps.{gap_is, zero_gap}
 use Rattle.cayley.proofs.OneCell.Unperturbed.{unranked, same_unperturbed, same_of}
 
 -- a point has no infinitesimal of its own
-abbrev IsEven : Point → Type 0
+abbrev pub IsEven : Point → Type 0
 IsEven x = x.rank ≡ 0
 
 even_all : (supports : List (List Point)) → Each (map unranked supports) (λ s. Each s IsEven)
@@ -27,10 +27,10 @@ even_all (s ∷ supports) = (points s, even_all supports)
     points [] = tt
     points (x ∷ s) = (refl, points s)
 
-abbrev Even : List Point → ℕ → ℕ → Type 0
+abbrev pub Even : List Point → ℕ → ℕ → Type 0
 Even s a b = InRange s a b × Each s IsEven
 
-first_even : (s : List Point) (a b : ℕ) → Even s a b → (point_at s a).rank ≡ 0
+pub first_even : (s : List Point) (a b : ℕ) → Even s a b → (point_at s a).rank ≡ 0
 first_even s a b e = each_position IsEven s a e.0.0 (omega (arith, e.0.1, e.0.2)) e.1
 
 second_even : (s : List Point) (a b : ℕ) → Even s a b → (point_at s b).rank ≡ 0
@@ -41,7 +41,7 @@ abbrev pub AreFlat : List ℤ → ℤ → List Point → ℕ → ℕ → Type 0
 AreFlat v den s a b = rise den v (point_at s a) (point_at s b) ≡ pos 0
 
 module _ (p : Problem) (cell : Cell) (of : IsOf p cell) (v : List ℤ) (den : ℤ) where
-  shape : EachPair (unperturbed p).supports cell Even
+  pub shape : EachPair (unperturbed p).supports cell Even
   shape = pairs_each (unperturbed p).supports cell InRange (λ s. Each s IsEven) (same_of p (unperturbed p) cell (same_unperturbed p) of) (even_all p.supports)
 
   flat : EachPair p.supports cell (AreFlat v den) ↔ EachPair (unperturbed p).supports cell (AreFlat v den)

@@ -20,3 +20,4 @@ pub mod PlainSums
 pub mod Circuits
 pub mod Spots
 pub mod PointOver
+pub mod Least

@@ -13,7 +13,7 @@ use Rattle.cayley.specs.Problems.{Point, Problem, IsProblem, version2}
 use Rattle.cayley.specs.Cells.{Cell}
 use Rattle.cayley.specs.Dependencies.{support_at, pair_at, IsFurtherAt, Numbers, IsPositiveDependency}
 use Rattle.cayley.specs.Resting.{rise}
-use Rattle.cayley.proofs.Flipping.Places.{pairs_long}
+use Rattle.cayley.proofs.Flipping.Places.{pairs_long, further_bound}
 use Rattle.inner_normal.specs.Coefficients.{difference, FitsCoefficients}
 use Rattle.inner_normal.specs.Inverses.{Inverse}
 use Rattle.inner_normal.specs.Orders.{ordered}
@@ -22,11 +22,11 @@ use Rattle.listing_text.specs.declared.listing.ListedCell.{ListedCell}
 use Rattle.cell_certificate.specs.Sides.{seen}
 use Rattle.cell_certificate.specs.Sums.{FitsRise}
 use Rattle.cell_certificate.specs.Tests.{sum_of}
-use Rattle.cell_certificate.specs.Ties.{IsLevelLine, FitsTieAt, IsOverAt}
+use Rattle.cell_certificate.specs.Ties.{IsLevelLine, FitsTieAt, IsOverAt, FitTies, AreOver}
 use Rattle.cell_certificate.proofs.Levels.{level_from}
 use Rattle.cell_certificate.proofs.Over.{over_up, over_not, over_tie}
 use Rattle.cell_certificate.proofs.PlainPoints.{valid_of, plain_ranks}
-use Rattle.cell_certificate.proofs.Spots.{pair_place, each_pair_place, support_count, sum_seen, fit_seen}
+use Rattle.cell_certificate.proofs.Spots.{pair_place, support_place, each_pair_place, support_count, sum_seen, fit_seen}
 
 module _ (file : File) (valid : IsValidFile file) (p : Problem) (same : p ≡ plain_problem file) (x : ListedCell) (line : IsLevelLine p x) (support : ℕ) (least : 1 ≤ support) (most : support ≤ p.dimension) where
   abbrev j : ℕ
@@ -47,6 +47,20 @@ module _ (file : File) (valid : IsValidFile file) (p : Problem) (same : p ≡ pl
   -- no further point
   pub skipped : (inverse : Inverse) (c : ℕ) → ¬ (IsFurtherAt p x.cell j c) → FitsTieAt p x.cell x.normal.v x.normal.den inverse j c × (IsTrue true ↔ IsOverAt p x.cell j c)
   skipped inverse c n = ((λ f. absurd (n f)), ((λ t f. absurd (n f)), (λ o. search rules)))
+
+  -- all points of the support
+  place_count : (k c : ℕ) → length (get_or p.supports j []) ≤ k → IsFurtherAt p x.cell j c → c ≤ k
+  place_count k c l further = let h = further.1 in let e = ap length (support_place p.supports j) in omega (arith, h, l, e)
+
+  pub every_tie : (inverse : Inverse) (k : ℕ) → length (get_or p.supports j []) ≤ k → ((c : ℕ) → c ≤ k → FitsTieAt p x.cell x.normal.v x.normal.den inverse j c)
+      → (c : ℕ) → FitsTieAt p x.cell x.normal.v x.normal.den inverse j c
+  every_tie inverse k l f c further z = f c (place_count k c l further) further z
+
+  pub every_over : (k : ℕ) → length (get_or p.supports j []) ≤ k → (b : Bool) → IsTrue b ↔ ((c : ℕ) → c ≤ k → IsOverAt p x.cell j c) → IsTrue b ↔ ((c : ℕ) → IsOverAt p x.cell j c)
+  every_over k l b r = (
+    (λ t c further. r.0 t c (place_count k c l further) further),
+    (λ o. r.1 (λ c h. o c)),
+  )
 
   module _ (points : List StoredPoint) (e : map file_point points ≡ get_or file.supports j []) (pairs : Cell) (own : pairs ≡ x.cell) where
     abbrev pub pair : ℕ × ℕ
@@ -123,3 +137,21 @@ module _ (file : File) (valid : IsValidFile file) (p : Problem) (same : p ≡ pl
             (λ f t. fits),
             ((λ t. o.1 (r.0 t)), (λ u. r.1 (o.0 u))),
           )
+
+-- all supports
+module _ (p : Problem) (well : IsProblem p) (x : ListedCell) (line : IsLevelLine p x) where
+  cell_place : (k i c : ℕ) → p.dimension ≤ k → IsFurtherAt p x.cell i c → i < k
+  cell_place k i c l further =
+      let n = pairs_long p.supports x.cell _ line.0.0 in
+      let m = well.supports in
+      let b = further_bound p.supports x.cell i c n further in
+      omega (arith, b, n, m, l)
+
+  pub all_ties : (inverse : Inverse) (k : ℕ) → p.dimension ≤ k → ((i : ℕ) → i < k → (c : ℕ) → FitsTieAt p x.cell x.normal.v x.normal.den inverse i c) → FitTies p x.cell x.normal.v x.normal.den inverse
+  all_ties inverse k l f i c further z = f i (cell_place k i c l further) c further z
+
+  pub all_over : (k : ℕ) → p.dimension ≤ k → (b : Bool) → IsTrue b ↔ ((i : ℕ) → i < k → (c : ℕ) → IsOverAt p x.cell i c) → IsTrue b ↔ AreOver p x.cell
+  all_over k l b r = (
+    (λ t i c further. r.0 t i (cell_place k i c l further) c further),
+    (λ o. r.1 (λ i h c. o i c)),
+  )

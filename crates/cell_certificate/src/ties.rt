@@ -146,9 +146,8 @@ fn is_support_over(
         (λ over. fits × (IsTrue over ↔ ((c : ℕ) → IsOverAt p x.cell (support - 1) c)))
         (IsFromFault fits) }
 {
-    let count = file.support(support).len() as u32;
     let mut over = true;
-    for k in 0..count {
+    for k in 0..problem.count(support) {
         let own = match is_point_over(alloc, file, problem, inverse, listed, support, k + 1) {
             Ok(own) => own,
             Err(fault) => return Err(fault),
