@@ -1,11 +1,14 @@
 -- each further point is above under every normal: by the sums where none is 0 or no point has an infinitesimal, else point by point
 use Rattle.std.proofs.Common.{◌≡◌, ◌≢◌, ◌↔◌, ℕ, zero, suc, ◌+◌, ◌<◌, ◌≤◌, Bool, List, [], ◌∷◌, length, map, arith, refl, sym, ap, subst, ◌∙◌, ◌<ℤ◌, Result, Ok, Err}
-use Rattle.std.specs.Prelude.{IsTrue}
+use Rattle.std.specs.Prelude.{IsTrue, MatchResult}
 use Rattle.std.proofs.lemmas.Int.{ints}
 use Rattle.std.proofs.Math.IntN.{ℤ, pos}
 use Rattle.wide_int.proofs.Order.{sign_cases}
 use Rattle.int_vectors.specs.Vectors.{IsZero}
 use Rattle.reduced_rows.specs.CellRefusals.{IsEliminated}
+use Rattle.reduced_rows.specs.Refusals.{IsFromFault}
+use Rattle.reduced_rows.specs.declared.faults.FromFault.{FromFault}
+use Rattle.reduced_rows.specs.declared.faults.FromFault.TheVariants.{Overflow, OutOfMemory}
 use Rattle.cayley.specs.Times.{time_zero}
 use Rattle.cayley.specs.Problems.{Version, version1, version2, Point, Problem, IsProblem, HasRanks, point_at, unperturbed, ranked_supports}
 use Rattle.cayley.specs.Cells.{Cell, EachPair, IsFurther}
@@ -26,7 +29,7 @@ use Rattle.cell_certificate.specs.Ties.{IsLevelLine, FitTies, AreOver}
 use Rattle.cell_certificate.proofs.FirstEntries.{first_entries_of, over_first, below_first}
 use Rattle.cell_certificate.proofs.Levels.{Even, shape, first_even, level_from}
 use Rattle.cell_certificate.proofs.PlainSums.{risen}
-use Rattle.cell_certificate.proofs.Spots.{each_pair_place}
+use Rattle.cell_certificate.proofs.Spots.{each_pair_place, fault_of_more}
 use Rattle.cell_certificate.proofs.Together.{pairs_map, pairs_both}
 
 -- by places, and pair by pair
@@ -38,7 +41,7 @@ each_of_places Q [] (x ∷ cell) n f = absurd (omega (arith, n))
 each_of_places Q (s ∷ ss) [] n f = absurd (omega (arith, n))
 each_of_places Q (s ∷ ss) (x ∷ cell) n f = ((λ c u. f 0 c u), each_of_places Q ss cell (omega (arith, n)) (λ j c u. f (suc j) c u))
 
-value_of : {A B : Type 0} → A → Result A B → A
+abbrev value_of : {A B : Type 0} → A → Result A B → A
 value_of d (Ok a) = a
 value_of d (Err b) = d
 
@@ -133,3 +136,13 @@ module _ (p : Problem) (well : IsProblem p) (x : ListedCell) (line : IsLevelLine
     -- where some sum is 0 the inverse is needed
     pub inverse_fits : p.version ≡ version2 → ¬ (FitsInverse rows) → HasTies p x → EachPair p.supports cell (λ s a b. (c : ℕ) → UntiedAt den v s a b c)
     inverse_fits version n h = each_of_places (λ s a c. rise den v (point_at s a) (point_at s c) ≢ pos 0) p.supports cell count (λ j c f z. n (h version rows done j c f z).0)
+
+    pub inverse_fault : (e : FromFault) → p.version ≡ version2 → ¬ (EachPair p.supports cell (λ s a b. (c : ℕ) → UntiedAt den v s a b c)) → IsFromFault (FitsInverse rows) e → IsFromFault (HasTies p x) e
+    inverse_fault Overflow version u n = λ h. u (inverse_fits version n h)
+    inverse_fault OutOfMemory version u n = tt
+
+    pub least_answer : (inverse : Inverse) → FitsInverse rows → inverse ≡ inverse_of rows → p.version ≡ version2 → (r : Result Bool FromFault)
+        → MatchResult r (λ over. FitTies p cell v den inverse × (IsTrue over ↔ AreOver p cell)) (IsFromFault (FitTies p cell v den inverse))
+        → MatchResult r (λ least. HasTies p x × (IsTrue least ↔ HasLeast p x)) (IsFromFault (HasTies p x))
+    least_answer inverse fits is version (Ok b) h = (ties_fit inverse fits is h.0, least_over b h.1)
+    least_answer inverse fits is version (Err e) h = fault_of_more (FitTies p cell v den inverse) (HasTies p x) e (fit_ties inverse is version) h

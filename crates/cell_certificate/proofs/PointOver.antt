@@ -48,20 +48,6 @@ module _ (file : File) (valid : IsValidFile file) (p : Problem) (same : p ≡ pl
   pub skipped : (inverse : Inverse) (c : ℕ) → ¬ (IsFurtherAt p x.cell j c) → FitsTieAt p x.cell x.normal.v x.normal.den inverse j c × (IsTrue true ↔ IsOverAt p x.cell j c)
   skipped inverse c n = ((λ f. absurd (n f)), ((λ t f. absurd (n f)), (λ o. search rules)))
 
-  -- all points of the support
-  place_count : (k c : ℕ) → length (get_or p.supports j []) ≤ k → IsFurtherAt p x.cell j c → c ≤ k
-  place_count k c l further = let h = further.1 in let e = ap length (support_place p.supports j) in omega (arith, h, l, e)
-
-  pub every_tie : (inverse : Inverse) (k : ℕ) → length (get_or p.supports j []) ≤ k → ((c : ℕ) → c ≤ k → FitsTieAt p x.cell x.normal.v x.normal.den inverse j c)
-      → (c : ℕ) → FitsTieAt p x.cell x.normal.v x.normal.den inverse j c
-  every_tie inverse k l f c further z = f c (place_count k c l further) further z
-
-  pub every_over : (k : ℕ) → length (get_or p.supports j []) ≤ k → (b : Bool) → IsTrue b ↔ ((c : ℕ) → c ≤ k → IsOverAt p x.cell j c) → IsTrue b ↔ ((c : ℕ) → IsOverAt p x.cell j c)
-  every_over k l b r = (
-    (λ t c further. r.0 t c (place_count k c l further) further),
-    (λ o. r.1 (λ c h. o c)),
-  )
-
   module _ (points : List StoredPoint) (e : map file_point points ≡ get_or file.supports j []) (pairs : Cell) (own : pairs ≡ x.cell) where
     abbrev pub pair : ℕ × ℕ
     pair = get_or pairs j (0, 0)
@@ -137,6 +123,22 @@ module _ (file : File) (valid : IsValidFile file) (p : Problem) (same : p ≡ pl
             (λ f t. fits),
             ((λ t. o.1 (r.0 t)), (λ u. r.1 (o.0 u))),
           )
+
+-- all points of a support
+module _ (p : Problem) (x : ListedCell) (support : ℕ) where
+  place_count : (k c : ℕ) → length (get_or p.supports (support - 1) []) ≤ k → IsFurtherAt p x.cell (support - 1) c → c ≤ k
+  place_count k c l further = let h = further.1 in let e = ap length (support_place p.supports (support - 1)) in omega (arith, h, l, e)
+
+  pub every_tie : (inverse : Inverse) (k : ℕ) → length (get_or p.supports (support - 1) []) ≤ k → ((c : ℕ) → c ≤ k → FitsTieAt p x.cell x.normal.v x.normal.den inverse (support - 1) c)
+      → (c : ℕ) → FitsTieAt p x.cell x.normal.v x.normal.den inverse (support - 1) c
+  every_tie inverse k l f c further z = f c (place_count k c l further) further z
+
+  pub every_over : (k : ℕ) → length (get_or p.supports (support - 1) []) ≤ k → (b : Bool) → IsTrue b ↔ ((c : ℕ) → c ≤ k → IsOverAt p x.cell (support - 1) c)
+      → IsTrue b ↔ ((c : ℕ) → IsOverAt p x.cell (support - 1) c)
+  every_over k l b r = (
+    (λ t c further. r.0 t c (place_count k c l further) further),
+    (λ o. r.1 (λ c h. o c)),
+  )
 
 -- all supports
 module _ (p : Problem) (well : IsProblem p) (x : ListedCell) (line : IsLevelLine p x) where

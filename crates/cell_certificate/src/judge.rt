@@ -67,10 +67,18 @@ fn is_least(
         (λ least. HasTies problem.now listed.now × (IsTrue least ↔ HasLeast problem.now listed.now))
         (IsFromFault (HasTies problem.now listed.now)) }
 {
-    if sides.untied || !is_perturbed(file) {
+    // A problem is valid by its type, as its readers tell.
+    let _dim = problem.dim();
+    if sides.untied {
         return Ok(sides.above);
     }
-    let inverse = eliminated.inverse(alloc)?;
+    if !is_perturbed(file) {
+        return Ok(sides.above);
+    }
+    let inverse = match eliminated.inverse(alloc) {
+        Ok(inverse) => inverse,
+        Err(fault) => return Err(fault),
+    };
     are_over(alloc, file, problem, &inverse, listed)
 }
 

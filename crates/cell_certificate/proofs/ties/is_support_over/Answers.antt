@@ -1,4 +1,4 @@
-use Rattle.std.proofs.Common.{rules, ◌-◌, ◌+◌, ◌∙◌, ◌≤◌, length, arith, refl, sym}
+use Rattle.std.proofs.Common.{rules, ◌≡◌, [], get_or, ◌-◌, ◌+◌, ◌∙◌, ◌≤◌, length, arith, refl, sym}
 use Rattle.cell_certificate.specs.Ties.{FitsTieAt, IsOverAt}
 use Rattle.cell_certificate.proofs.PointOver.{every_tie, every_over}
 use Rattle.cell_certificate.proofs.Spots.{fault_of_more}
@@ -25,4 +25,9 @@ returns-in-Err c =
     fault_of_more _ _ c.in-Err.fault (λ f. f (c.loop-k.k + 1)) c.in-Err.ensures
 
 pub returns : goal.returns
-returns c = ?
+returns c =
+    let p = c.args.problem.now in
+    let x = c.args.listed.now in
+    let e : c.count-k-end.result ≡ length (get_or p.supports (c.args.support - 1) []) = c.count-k-end.ensures in
+    let l : length (get_or p.supports (c.args.support - 1) []) ≤ c.loop-k.k = omega (arith, e, c.loop-k-test.false) in
+    (every_tie p x c.args.support c.args.inverse.now c.loop-k.k l c.loop-k.invariant.fits, every_over p x c.args.support c.loop-k.k l _ c.loop-k.invariant.over)
