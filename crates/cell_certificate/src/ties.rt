@@ -119,11 +119,17 @@ fn is_point_over(
     if sum != 0 {
         return Ok(sum > 0);
     }
-    let coefficients =
-        match coefficients_at(alloc, problem, &listed.cell, inverse, support, position) {
-            Ok(made) => made,
-            Err(fault) => return Err(fault),
-        };
+    let coefficients = match coefficients_at(
+        alloc,
+        problem,
+        &listed.cell,
+        inverse,
+        support,
+        position,
+    ) {
+        Ok(made) => made,
+        Err(fault) => return Err(fault),
+    };
     Ok(is_circuit_positive(&listed.cell, support, position, &coefficients))
 }
 

@@ -128,9 +128,12 @@ pub coefficients_at-requires-clause-point : goal.coefficients_at-requires-clause
 coefficients_at-requires-clause-point c =
     let s = c.requires.support in
     let q = c.requires.position in
-    let l : c.args.position ≤ length c.support-points.result.now = omega (arith, c.if-points-position.false) in
-    (s.0, s.1, is_further c.args.file.now c.support-points.ensures.valid c.args.problem.now c.requires.same c.args.listed.now c.requires.level c.args.support s.0 s.1 c.support-points.result.now
-    c.support-points.ensures.value c.pairs.result.now c.pairs.ensures.same c.args.position q l c.if-position-pair.false c.if-position-pair-2.false)
+    let l : c.args.position ≤ length c.support-points.result.now = omega (arith, c.if-points-position.false) in (
+      s.0,
+      s.1,
+      is_further c.args.file.now c.support-points.ensures.valid c.args.problem.now c.requires.same c.args.listed.now c.requires.level c.args.support s.0 s.1 c.support-points.result.now
+          c.support-points.ensures.value c.pairs.result.now c.pairs.ensures.same c.args.position q l c.if-position-pair.false c.if-position-pair-2.false,
+    )
 
 pub returns-in-Err : goal.returns-in-Err
 returns-in-Err c =
