@@ -4,3 +4,4 @@ mod Squares
 mod OnePoint
 mod LevelPoints
 pub mod ThreePoints
+mod Perturbed

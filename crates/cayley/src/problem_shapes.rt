@@ -7,7 +7,7 @@ ghost use Rattle.cayley.specs.Valid.{HasProblemShape, IsValidProblem, IsWithinCo
 ghost use Rattle.int_vectors.specs.Vectors.{Each};
 
 use crate::faults::ShapeFault;
-use crate::limits::{is_within_corners, is_within_resting, DIMENSIONS, POINTS};
+use crate::limits::{DIMENSIONS, POINTS, is_within_corners, is_within_resting};
 use crate::points::{Point, Support};
 use std::alloc::Global;
 use std::collections::BTreeSet;

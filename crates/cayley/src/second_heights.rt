@@ -57,7 +57,10 @@ fn outside(second: &[Vec<i64>]) -> Option<(u32, u32)>
 }
 
 /// Whether these are second heights of the supports' points, and the fault where they aren't.
-pub(crate) fn check_second(supports: &[Vec<FilePoint>], second: &[Vec<i64>]) -> Result<(), ShapeFault>
+pub(crate) fn check_second(
+    supports: &[Vec<FilePoint>],
+    second: &[Vec<i64>],
+) -> Result<(), ShapeFault>
     requires few { length supports.now ≤ 16 }
     requires counts { All (λ s. length s.items ≤ 1000) supports.now }
     ensures { let given = map (λ s. s.items) second.now in

@@ -8,7 +8,7 @@ ghost use Rattle.int_vectors.specs.Vectors.{Each};
 ghost use Rattle.cayley.specs.Valid.{HasFileShape, IsStart, IsValidFile};
 
 use crate::faults::ShapeFault;
-use crate::limits::{are_starts, is_within_file, DIMENSIONS, POINTS};
+use crate::limits::{DIMENSIONS, POINTS, are_starts, is_within_file};
 use crate::points::FilePoint;
 use std::alloc::Global;
 use std::collections::BTreeSet;

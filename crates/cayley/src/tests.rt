@@ -1,4 +1,4 @@
-use crate::{Cell, FilePoint, LiftFile, Point, Problem, ShapeFault, Support};
+use crate::{Cell, FilePoint, LiftFile, Point, Problem, ShapeFault, Support, Version};
 use int_vectors::IntVec;
 use std::alloc::Global;
 use std::cmp::Ordering;
@@ -255,6 +255,107 @@ fn rows_of_a_cell_of_two_squares(rt: HostRuntime) -> Result<(), Fail> {
         assert!(rt; rows.len() == 2);
         assert_eq!(rt; rows[0].as_slice(), [2, 0, -3, 1, 1, 0].as_slice());
         assert_eq!(rt; rows[1].as_slice(), [-1, -1, -1, 1, 0, 1].as_slice());
+    }
+    Ok(())
+}
+
+// The file of one support in dimension 1, perturbed.
+fn perturbed(
+    alloc: Global,
+    points: &[(&[i128], i64)],
+) -> Result<Result<LiftFile, ShapeFault>, Fail> {
+    let mut supports = Vec::new(alloc);
+    supports.push(file_points(alloc, points)?)?;
+    Ok(LiftFile::perturbed(alloc, 1, supports, None))
+}
+
+fn second_heights(alloc: Global, heights: &[i64]) -> Result<Vec<Vec<i64>>, Fail> {
+    let mut second = Vec::new(alloc);
+    second.push(Vec::from_slice(alloc, heights)?)?;
+    Ok(second)
+}
+
+// The fault of second heights for the points 0 and 2.
+fn between_fault(alloc: Global, heights: &[i64]) -> Result<Option<ShapeFault>, Fail> {
+    let file = segment(alloc, &[(&[0], 0), (&[2], 1)])??;
+    let second = second_heights(alloc, heights)?;
+    Ok(Problem::between(alloc, &file, &second).err())
+}
+
+#[test]
+fn files_have_a_version(rt: HostRuntime) -> Result<(), Fail> {
+    let first = segment(rt.alloc(), &[(&[0], 0), (&[2], 1)])??;
+    let second = perturbed(rt.alloc(), &[(&[0], 0), (&[2], 1)])??;
+    assert!(rt; first.version() == 1 && first.form() == Version::First);
+    assert!(rt; second.version() == 2 && second.form() == Version::Second);
+    let plain = Problem::plain(rt.alloc(), &second)?;
+    assert!(rt; plain.dim() == 1 && plain.count(1) == 2);
+    assert!(rt; plain.version() == 2 && plain.is_still());
+    assert!(rt; plain.rank(1, 1) == 1 && plain.rank(1, 2) == 2);
+    let faulty = perturbed(rt.alloc(), &[(&[0], 0), (&[0], 1)])?;
+    let want = ShapeFault::Repeated {
+        support: 1,
+        position: 2,
+    };
+    assert_eq!(rt; faulty.err(), Some(want));
+    Ok(())
+}
+
+#[test]
+fn all_but_the_start_corners_have_a_rank(rt: HostRuntime) -> Result<(), Fail> {
+    let mut supports = Vec::new(rt.alloc());
+    for points in [&FIRST, &SECOND] {
+        supports.push(support(rt.alloc(), points, 4)?)?;
+    }
+    let problem = Problem::perturbed(rt.alloc(), 2, supports)?;
+    assert!(rt; problem.dim() == 2 && problem.count(1) == 7 && problem.count(2) == 7);
+    assert!(rt; problem.version() == 2 && problem.is_still());
+    assert!(rt; problem.rank(1, 4) == 4 && problem.rank(1, 5) == 0);
+    assert!(rt; problem.rank(1, 6) == 0 && problem.rank(1, 7) == 5);
+    assert!(rt; problem.rank(2, 1) == 6 && problem.rank(2, 5) == 0);
+    assert!(rt; problem.rank(2, 6) == 10 && problem.rank(2, 7) == 0);
+    let plain = squares(rt.alloc(), 7)??;
+    assert!(rt; plain.dim() == 2 && plain.count(2) == 7);
+    assert!(rt; plain.version() == 1 && plain.rank(2, 6) == 0);
+    Ok(())
+}
+
+#[test]
+fn heights_go_from_one_lift_to_another(rt: HostRuntime) -> Result<(), Fail> {
+    let file = perturbed(rt.alloc(), &[(&[0], 4), (&[2], -1)])??;
+    let second = second_heights(rt.alloc(), &[4, 1_000_000_000])?;
+    let problem = Problem::between(rt.alloc(), &file, &second)?;
+    assert!(rt; problem.dim() == 1 && problem.count(1) == 2);
+    assert!(rt; problem.version() == 1 && !problem.is_still() && problem.rank(1, 2) == 0);
+    let resting = problem.point(1, 1);
+    assert!(rt; resting.base == 4 && resting.speed == 0);
+    let rising = problem.point(1, 2);
+    assert!(rt; rising.base == -1 && rising.speed == 1_000_000_001);
+    Ok(())
+}
+
+#[test]
+fn faults_of_second_heights(rt: HostRuntime) -> Result<(), Fail> {
+    let table: [(&[i64], Option<ShapeFault>); 4] = [
+        (&[0, 5], None),
+        (&[0], Some(ShapeFault::BadShape)),
+        (
+            &[0, -1_000_000_001],
+            Some(ShapeFault::Range {
+                support: 1,
+                position: 2,
+            }),
+        ),
+        (
+            &[1_000_000_001, 1_000_000_001],
+            Some(ShapeFault::Range {
+                support: 1,
+                position: 1,
+            }),
+        ),
+    ];
+    for (heights, want) in table {
+        assert_eq!(rt; between_fault(rt.alloc(), heights)?, want);
     }
     Ok(())
 }

@@ -10,7 +10,7 @@ use std::alloc::Global;
 use std::test::Fail;
 
 // The first square, and the corners of its path.
-const FIRST: [(&[i128], i64, u8); 7] = [
+const FIRST: [(&[i128], i64, i64); 7] = [
     (&[0, 0], 3, 0),
     (&[1, 0], 10, 0),
     (&[0, 1], 20, 0),
@@ -20,7 +20,7 @@ const FIRST: [(&[i128], i64, u8); 7] = [
     (&[0, 2], 331, 1),
 ];
 
-const SECOND: [(&[i128], i64, u8); 7] = [
+const SECOND: [(&[i128], i64, i64); 7] = [
     (&[0, 0], 5, 0),
     (&[1, 0], 40, 0),
     (&[0, 1], 9, 0),
@@ -30,7 +30,7 @@ const SECOND: [(&[i128], i64, u8); 7] = [
     (&[0, 2], 0, 1),
 ];
 
-fn support(alloc: Global, given: &[(&[i128], i64, u8)]) -> Result<Support, Fail> {
+fn support(alloc: Global, given: &[(&[i128], i64, i64)]) -> Result<Support, Fail> {
     let mut points = Vec::new(alloc);
     for (coords, base, speed) in given {
         let coords = IntVec::from_slice(alloc, coords)?;

@@ -45,19 +45,21 @@ pub shape_from : (dim : ℕ) (supports : List Support) → 1 ≤ dim → dim ≤
 shape_from dim supports a b h =
     let each = each_all (HasPoints dim) supports h.2 in
     let still = support_from (HasPoints dim) _ (λ i s q. subst (λ (ps : List Point). Each ps (λ (x : Point). x.speed ≡ pos 0)) (map_take point s.file s.points.items)
-        (speeds_from (pos 0) (take s.file s.points.items) (each_all _ (take s.file s.points.items) q.4.0))) 1 supports each in
-    (record {
-      dimension = (a, b);
-      problem = record {
-        supports = length-map supports points_of ∙ h.0;
-        points = each_map points_of _ supports (each_weaker (HasPoints dim) _ supports (λ s q. each_map point _ s.points.items (each_all _ s.points.items q.3)) each);
-      };
-      counts = each_map (λ (s : Support). s.file) _ supports (each_weaker (HasPoints dim) _ supports (λ s q. (q.0, q.1)) each);
-      corners = corners h.1;
-      still = inl still;
-      moving = support_from (HasPoints dim) _ (λ i s q. subst (λ (ps : List Point). Each ps (λ (x : Point). x.speed ≡ pos 1)) (map_drop point s.file s.points.items)
-          (speeds_from (pos 1) (drop s.file s.points.items) (each_all _ (drop s.file s.points.items) q.4.1))) 1 supports each;
-    }, still)
+    (speeds_from (pos 0) (take s.file s.points.items) (each_all _ (take s.file s.points.items) q.4.0))) 1 supports each in (
+      record {
+        dimension = (a, b);
+        problem = record {
+          supports = length-map supports points_of ∙ h.0;
+          points = each_map points_of _ supports (each_weaker (HasPoints dim) _ supports (λ s q. each_map point _ s.points.items (each_all _ s.points.items q.3)) each);
+        };
+        counts = each_map (λ (s : Support). s.file) _ supports (each_weaker (HasPoints dim) _ supports (λ s q. (q.0, q.1)) each);
+        corners = corners h.1;
+        still = inl still;
+        moving = support_from (HasPoints dim) _ (λ i s q. subst (λ (ps : List Point). Each ps (λ (x : Point). x.speed ≡ pos 1)) (map_drop point s.file s.points.items)
+            (speeds_from (pos 1) (drop s.file s.points.items) (each_all _ (drop s.file s.points.items) q.4.1))) 1 supports each;
+      },
+      still,
+    )
   where
     corners : All (λ (s : Support). length s.points.items ≡ s.file) supports ⊎ All (λ (s : Support). length s.points.items ≡ s.file + (dim + 1)) supports
         → HasCorners (unranked_of dim supports)

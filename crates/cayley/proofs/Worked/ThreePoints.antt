@@ -58,7 +58,7 @@ three_well = record { supports = refl; points = ((refl, (refl, (refl, (refl, (re
 pub files_well : IsProblem (file_points three)
 files_well = file_points_well three three_well refl
 
-independent_by : (p : Problem) (a b : ℕ) → p.dimension ≡ 1 → length p.supports ≡ 1
+pub independent_by : (p : Problem) (a b : ℕ) → p.dimension ≡ 1 → length p.supports ≡ 1
     → ((x : ℤ) → dot (sub (point_at (support_at p.supports 0) b).coordinates (point_at (support_at p.supports 0) a).coordinates) (x ∷ []) ≡ pos 0 → x ≡ pos 0) → IsIndependent p ((a, b) ∷ [])
 independent_by p a b n s f v l e = vector v (l ∙ n) (first p.supports s e)
   where
