@@ -13,3 +13,11 @@ pub mod LowestLevel
 pub mod Multiples
 pub mod WorkedSums
 pub mod WrittenLines
+pub mod FirstEntries
+pub mod Blind
+pub mod Over
+pub mod PlainSums
+pub mod Circuits
+pub mod Spots
+pub mod PointOver
+pub mod Least

@@ -10,8 +10,13 @@ use Rattle.cell_certificate.specs.declared.judgement.Judgement.{Judgement}
 use Rattle.cell_certificate.specs.declared.judgement.Judgement.TheVariants.{Passes, Unfit, Order, Dependent, NotLevel, NotLess, NotLowest}
 use Rattle.cell_certificate.specs.declared.verdict.Verdict.TheVariants.{Yes, No}
 use Rattle.cell_certificate.specs.declared.verdict.CheckFault.TheVariants.{Overflow, OutOfMemory}
-use Rattle.cell_certificate.specs.Judgements.{IsJudged, AllPass, FirstRefused}
+use Rattle.cell_certificate.specs.Judgements.{HasSums, HasLevel, HasTies, IsNormalJudged, IsJudged, AllPass, FirstRefused}
 use Rattle.cell_certificate.specs.Answers.{Answer, HadMemory, reason_of, WrongAt, TooLargeAt, IsRight, IsWrong, IsTooLarge, IsAnswer}
+
+-- where the sums and the circuits that are needed can be formed, nothing is unfit
+pub never_unfit : (p : Problem) (x : ListedCell) → IsNormalJudged p x Unfit → HasSums p x → (HasLevel p x → HasTies p x) → ⊥
+never_unfit p x (inl n) s h = n s
+never_unfit p x (inr n) s h = n.2 (h n.1)
 
 one_judgement : (p : Problem) (before : Option Cell) (x : ListedCell) (j k : Judgement) → IsJudged p before x j → IsJudged p before x k → j ≡ k
 one_judgement p before x Order Order a b = refl
@@ -28,13 +33,13 @@ one_judgement p before x Unfit Unfit a b = refl
 one_judgement p before x Unfit Dependent (inl a) b = absurd (a.1 b.1)
 one_judgement p before x Unfit Dependent (inr a) b = absurd (b.2 a.0.2)
 one_judgement p before x Unfit NotLevel (inl a) b = absurd (a.1 b.0.1)
-one_judgement p before x Unfit NotLevel (inr a) b = absurd (a.1 b.1)
+one_judgement p before x Unfit NotLevel (inr a) b = absurd (never_unfit p x a.1 b.1 (λ l. absurd (b.2 l)))
 one_judgement p before x Unfit NotLess (inl a) b = absurd (a.1 b.0.1)
-one_judgement p before x Unfit NotLess (inr a) b = absurd (a.1 b.1)
+one_judgement p before x Unfit NotLess (inr a) b = absurd (never_unfit p x a.1 b.1 (λ l. b.3))
 one_judgement p before x Unfit NotLowest (inl a) b = absurd (a.1 b.0.1)
-one_judgement p before x Unfit NotLowest (inr a) b = absurd (a.1 b.1)
+one_judgement p before x Unfit NotLowest (inr a) b = absurd (never_unfit p x a.1 b.1 (λ l. b.3))
 one_judgement p before x Unfit Passes (inl a) b = absurd (a.1 b.0.1)
-one_judgement p before x Unfit Passes (inr a) b = absurd (a.1 b.1)
+one_judgement p before x Unfit Passes (inr a) b = absurd (never_unfit p x a.1 b.1 (λ l. b.3))
 one_judgement p before x Dependent Order a b = absurd (b a.0)
 one_judgement p before x Dependent Unfit a (inl b) = absurd (b.1 a.1)
 one_judgement p before x Dependent Unfit a (inr b) = absurd (a.2 b.0.2)
@@ -45,7 +50,7 @@ one_judgement p before x Dependent NotLowest a b = absurd (a.2 b.0.2)
 one_judgement p before x Dependent Passes a b = absurd (a.2 b.0.2)
 one_judgement p before x NotLevel Order a b = absurd (b a.0.0)
 one_judgement p before x NotLevel Unfit a (inl b) = absurd (b.1 a.0.1)
-one_judgement p before x NotLevel Unfit a (inr b) = absurd (b.1 a.1)
+one_judgement p before x NotLevel Unfit a (inr b) = absurd (never_unfit p x b.1 a.1 (λ l. absurd (a.2 l)))
 one_judgement p before x NotLevel Dependent a b = absurd (b.2 a.0.2)
 one_judgement p before x NotLevel NotLevel a b = refl
 one_judgement p before x NotLevel NotLess a b = absurd (a.2 b.2)
@@ -53,27 +58,27 @@ one_judgement p before x NotLevel NotLowest a b = absurd (a.2 b.2)
 one_judgement p before x NotLevel Passes a b = absurd (a.2 b.2)
 one_judgement p before x NotLess Order a b = absurd (b a.0.0)
 one_judgement p before x NotLess Unfit a (inl b) = absurd (b.1 a.0.1)
-one_judgement p before x NotLess Unfit a (inr b) = absurd (b.1 a.1)
+one_judgement p before x NotLess Unfit a (inr b) = absurd (never_unfit p x b.1 a.1 (λ l. a.3))
 one_judgement p before x NotLess Dependent a b = absurd (b.2 a.0.2)
 one_judgement p before x NotLess NotLevel a b = absurd (b.2 a.2)
 one_judgement p before x NotLess NotLess a b = refl
-one_judgement p before x NotLess NotLowest a b = absurd (a.3 b.3)
-one_judgement p before x NotLess Passes a b = absurd (a.3 b.3)
+one_judgement p before x NotLess NotLowest a b = absurd (a.4 b.4)
+one_judgement p before x NotLess Passes a b = absurd (a.4 b.4)
 one_judgement p before x NotLowest Order a b = absurd (b a.0.0)
 one_judgement p before x NotLowest Unfit a (inl b) = absurd (b.1 a.0.1)
-one_judgement p before x NotLowest Unfit a (inr b) = absurd (b.1 a.1)
+one_judgement p before x NotLowest Unfit a (inr b) = absurd (never_unfit p x b.1 a.1 (λ l. a.3))
 one_judgement p before x NotLowest Dependent a b = absurd (b.2 a.0.2)
 one_judgement p before x NotLowest NotLevel a b = absurd (b.2 a.2)
-one_judgement p before x NotLowest NotLess a b = absurd (b.3 a.3)
+one_judgement p before x NotLowest NotLess a b = absurd (b.4 a.4)
 one_judgement p before x NotLowest NotLowest a b = refl
-one_judgement p before x NotLowest Passes a b = absurd (a.4 b.4)
+one_judgement p before x NotLowest Passes a b = absurd (a.5 b.5)
 one_judgement p before x Passes Order a b = absurd (b a.0.0)
 one_judgement p before x Passes Unfit a (inl b) = absurd (b.1 a.0.1)
-one_judgement p before x Passes Unfit a (inr b) = absurd (b.1 a.1)
+one_judgement p before x Passes Unfit a (inr b) = absurd (never_unfit p x b.1 a.1 (λ l. a.3))
 one_judgement p before x Passes Dependent a b = absurd (b.2 a.0.2)
 one_judgement p before x Passes NotLevel a b = absurd (b.2 a.2)
-one_judgement p before x Passes NotLess a b = absurd (b.3 a.3)
-one_judgement p before x Passes NotLowest a b = absurd (b.4 a.4)
+one_judgement p before x Passes NotLess a b = absurd (b.4 a.4)
+one_judgement p before x Passes NotLowest a b = absurd (b.5 a.5)
 one_judgement p before x Passes Passes a b = refl
 
 -- P is never said of a line that passes

@@ -8,7 +8,7 @@ use Rattle.cayley.specs.Stored.{file_point}
 use Rattle.cayley.specs.Files.{FilePoint}
 use Rattle.cayley.specs.Problems.{origin, point_at}
 use Rattle.cell_certificate.specs.Sides.{seen}
-use Rattle.cell_certificate.specs.Sums.{FitsRise, FitsAt, RisesAt}
+use Rattle.cell_certificate.specs.Sums.{FitsRise, FitsAt, RisesAt, UntiedAt}
 use Rattle.cayley.specs.Resting.{rise}
 
 -- what is true of each mapped element is true at a place
@@ -49,4 +49,11 @@ module _ (den : ℤ) (v : List ℤ) (points : List StoredPoint) (a b j k : ℕ) 
       let l : length (map seen points) ≡ length points = length-map points seen in (
         (λ p u. subst (λ z. pos 0 <ℤ rise den v z (point_at (map seen points) (k + 1))) (sym first) (subst (λ z. pos 0 <ℤ rise den v (seen x) z) (sym other) p)),
         (λ r. subst (λ z. pos 0 <ℤ rise den v z (seen y)) first (subst (λ z. pos 0 <ℤ rise den v (point_at (map seen points) a) z) other (r (omega arith, omega (arith, l), na, nb)))),
+      )
+
+  pub untied_at : k + 1 ≢ a → k + 1 ≢ b → (rise den v (seen x) (seen y) ≢ pos 0) ↔ UntiedAt den v (map seen points) a b (k + 1)
+  untied_at na nb =
+      let l : length (map seen points) ≡ length points = length-map points seen in (
+        (λ p u. subst (λ z. rise den v z (point_at (map seen points) (k + 1)) ≢ pos 0) (sym first) (subst (λ z. rise den v (seen x) z ≢ pos 0) (sym other) p)),
+        (λ r. subst (λ z. rise den v z (seen y) ≢ pos 0) first (subst (λ z. rise den v (point_at (map seen points) a) z ≢ pos 0) other (r (omega arith, omega (arith, l), na, nb)))),
       )

@@ -1,5 +1,5 @@
 -- the answer of one sum
-use Rattle.std.proofs.Common.{rules, ◌≡◌, ◌↔◌, ◌<ℤ◌, ◌+ℤ◌, ℤ, pos, List, Option, None, Some, SomeIff, sym, ◌∙◌, ap, subst}
+use Rattle.std.proofs.Common.{rules, ◌≡◌, ◌≢◌, ◌↔◌, Bool, ◌<ℤ◌, ◌+ℤ◌, ℤ, pos, List, Option, None, Some, SomeIff, sym, ◌∙◌, ap, subst}
 use Rattle.std.specs.Prelude.{IsTrue}
 use Rattle.std.specs.Int.Signed.{lt_z}
 use Rattle.wide_int.specs.Whole.{FitsWhole}
@@ -21,4 +21,10 @@ pub tested : (s z : ℤ) (P : Type 0) → s ≡ z → (pos 0 <ℤ z) ↔ P → I
 tested s z P e r = (
   (λ h. r.0 ((positive_test z).0 (subst (λ x. IsTrue (lt_z (pos 0) x)) e h))),
   (λ p. subst (λ x. IsTrue (lt_z (pos 0) x)) (sym e) ((positive_test z).1 (r.1 p))),
+)
+
+pub is_free : (s z : ℤ) (b : Bool) (P : Type 0) → s ≡ z → IsTrue b ↔ (s ≢ pos 0) → (z ≢ pos 0) ↔ P → IsTrue b ↔ P
+is_free s z b P e t r = (
+  (λ h. r.0 (λ i. t.0 h (e ∙ i))),
+  (λ p. t.1 (λ i. r.1 p (sym e ∙ i))),
 )

@@ -6,21 +6,15 @@ use Rattle.cayley.specs.declared.points.FilePoint.{FilePoint as StoredPoint}
 use Rattle.cayley.specs.Stored.{file_point}
 use Rattle.cayley.specs.Valid.{IsValidFile, IsWithinFile}
 use Rattle.cayley.specs.Files.{FilePoint, File, resting, plain_problem}
-use Rattle.cayley.specs.Problems.{version1, with_rank, ranked_supports}
+use Rattle.cayley.specs.Problems.{unperturbed}
 use Rattle.cayley.specs.Cells.{Cell, IsOf}
 use Rattle.cayley.proofs.Lists.Each.{map_map}
-use Rattle.cell_certificate.specs.Sides.{at_rest, seen, IsNear, IsPairOf}
+use Rattle.cell_certificate.specs.Sides.{seen, IsNear, IsPairOf}
+use Rattle.cell_certificate.proofs.PlainPoints.{resting_points}
 use Rattle.cell_certificate.proofs.Turns.{pair_at, same_count}
 
-rested : (supports : List (List FilePoint)) → map (map (with_rank 0)) (map (map resting) supports) ≡ map (map at_rest) supports
-rested [] = refl
-rested (s ∷ supports) = ap₂ (λ x xs. x ∷ xs) (map_map (with_rank 0) resting s) (rested supports)
-
-pub supports_are : (file : File) → file.version ≡ version1 → (plain_problem file).supports ≡ map (map at_rest) file.supports
-supports_are file e = ap (λ w. ranked_supports w (map length file.supports) (map (map resting) file.supports)) e ∙ rested file.supports
-
-pub supports_count : (file : File) → IsValidFile file → length (plain_problem file).supports ≡ file.dimension
-supports_count file valid = ap length (supports_are file valid.version) ∙ length-map file.supports (map at_rest) ∙ valid.shape.supports
+pub supports_count : (file : File) → IsValidFile file → length (unperturbed (plain_problem file)).supports ≡ file.dimension
+supports_count file valid = ap length (resting_points file) ∙ length-map file.supports (map resting) ∙ valid.shape.supports
 
 at_map : {A B : Type 0} (f : A → B) (xs : List A) (k : ℕ) (d : A) (e : B) → k < length xs → get_or (map f xs) k e ≡ f (get_or xs k d)
 at_map f [] k d e h = absurd (omega arith)
@@ -28,13 +22,13 @@ at_map f (x ∷ xs) zero d e h = refl
 at_map f (x ∷ xs) (suc k) d e h = at_map f xs k d e (omega arith)
 
 pub support_is : (file : File) (points : List StoredPoint) (k : ℕ) → IsValidFile file → k < file.dimension → map file_point points ≡ get_or file.supports k []
-    → get_or (plain_problem file).supports k [] ≡ map seen points
+    → get_or (unperturbed (plain_problem file)).supports k [] ≡ map seen points
 support_is file points k valid h e =
     let l : k < length file.supports = omega (arith, h, valid.shape.supports) in
-    ap (λ ss. get_or ss k []) (supports_are file valid.version)
-    ∙ at_map (map at_rest) file.supports k [] [] l
-    ∙ ap (map at_rest) (sym e)
-    ∙ map_map at_rest file_point points
+    ap (λ ss. get_or ss k []) (resting_points file)
+    ∙ at_map (map resting) file.supports k [] [] l
+    ∙ ap (map resting) (sym e)
+    ∙ map_map resting file_point points
 
 each_at : {A : Type 0} (P : List A → Type 0) (xs : List (List A)) (k : ℕ) → k < length xs → Each xs P → P (get_or xs k [])
 each_at P [] k h e = absurd (omega arith)
@@ -55,13 +49,15 @@ near_is file points k n valid h d e =
     (subst (λ s. Each s (IsNear file.dimension)) (sym e) (each_both (get_or file.supports k []) (λ (x : FilePoint). length x.coordinates ≡ file.dimension) IsWithinFile long within))
 
 -- a pair of the cell, as positions of the file's points
-pub pair_is : (file : File) (cell pairs : Cell) (points : List StoredPoint) (k : ℕ) → IsValidFile file → IsOf (plain_problem file) cell → k < file.dimension
+pub pair_is : (file : File) (cell pairs : Cell) (points : List StoredPoint) (k : ℕ) → IsValidFile file → IsOf (unperturbed (plain_problem file)) cell → k < file.dimension
     → map file_point points ≡ get_or file.supports k [] → pairs ≡ cell → IsPairOf (length points) (get_or pairs k (0, 0))
 pair_is file cell pairs points k valid of h e same =
-    let l : k < length cell = omega (arith, h, supports_count file valid, same_count (plain_problem file).supports cell (λ s a b. (1 ≤ a) × (a < b) × (b ≤ length s)) of) in
-    let r = pair_at (plain_problem file).supports cell (λ s a b. (1 ≤ a) × (a < b) × (b ≤ length s)) k of l in
+    let supports = (unperturbed (plain_problem file)).supports in
+    let l : k < length cell = omega (arith, h, supports_count file valid, same_count supports cell (λ s a b. (1 ≤ a) × (a < b) × (b ≤ length s)) of) in
+    let r = pair_at supports cell (λ s a b. (1 ≤ a) × (a < b) × (b ≤ length s)) k of l in
     let m = ap length (support_is file points k valid h e) ∙ length-map points seen in
     subst (λ ps. IsPairOf (length points) (get_or ps k (0, 0))) (sym same) (r.1.0, r.1.1, subst (λ n. (get_or cell k (0, 0)).1 ≤ n) m r.1.2)
 
-pub cell_count : (file : File) (cell : Cell) → IsValidFile file → IsOf (plain_problem file) cell → length cell ≡ file.dimension
-cell_count file cell valid of = sym (same_count (plain_problem file).supports cell (λ s a b. (1 ≤ a) × (a < b) × (b ≤ length s)) of) ∙ supports_count file valid
+pub cell_count : (file : File) (cell : Cell) → IsValidFile file → IsOf (unperturbed (plain_problem file)) cell → length cell ≡ file.dimension
+cell_count file cell valid of =
+    sym (same_count (unperturbed (plain_problem file)).supports cell (λ s a b. (1 ≤ a) × (a < b) × (b ≤ length s)) of) ∙ supports_count file valid

@@ -74,3 +74,17 @@ known_all supports cell P k known h i r = (
   (λ t. r.1 (t, rw (drop_of_length-le supports h, drop_of_length-le cell i) tt)),
   (λ e. (r.0 e).0),
 )
+
+-- the same for places below a bound
+pub next_below : (P : ℕ → Type 0) (i : ℕ) → ((j : ℕ) → j < i → P j) → P i → (j : ℕ) → j < i + 1 → P j
+next_below P i f p j h = elim (dec_le i j) [
+  | yes l ↦ let e : i ≡ j = omega (arith, h, l) in subst P e p
+  | no n ↦ f j (omega (arith, n))
+]
+
+pub next_test_below : (P : ℕ → Type 0) (i : ℕ) (old one new : Bool) → IsTrue old ↔ ((j : ℕ) → j < i → P j) → IsTrue one ↔ P i → IsTrue new ↔ (IsTrue one × IsTrue old)
+    → IsTrue new ↔ ((j : ℕ) → j < i + 1 → P j)
+next_test_below P i old one new o p n = (
+  (λ t. let h = n.0 t in next_below P i (o.0 h.1) (p.0 h.0)),
+  (λ f. n.1 (p.1 (f i (omega arith)), o.1 (λ j h. f j (omega (arith, h))))),
+)

@@ -14,7 +14,7 @@ use Rattle.reduced_rows.proofs.Orthogonal.{length-shares}
 use Rattle.reduced_rows.proofs.Outcome.{reduced_means, kernel_means_it}
 use Rattle.reduced_rows.proofs.Solving.{column_solves}
 use Rattle.cayley.specs.Times.{time_zero}
-use Rattle.cayley.specs.Problems.{Problem, IsProblem, point_at}
+use Rattle.cayley.specs.Problems.{Problem, IsProblem, point_at, unperturbed}
 use Rattle.cayley.specs.Cells.{Cell, IsOf, IsIndependent}
 use Rattle.cayley.specs.Mixed.{IsCoprime}
 use Rattle.cayley.specs.Rows.{edge_rows}
@@ -23,13 +23,14 @@ use Rattle.cell_certificate.specs.Sums.{FitsRise, FitsAt, FitsFurther}
 use Rattle.cell_certificate.specs.Tests.{IsLevelAt}
 use Rattle.cell_certificate.specs.Written.{FitsWritten}
 use Rattle.inner_normal.proofs.CellAnswers.{rows_lengths, cell_kernel, kernel_dependent}
-use Rattle.cell_certificate.proofs.Levels.{HasNoRanks, level_to}
+use Rattle.cell_certificate.proofs.Levels.{level_to}
 use Rattle.cell_certificate.proofs.MixedLines.{first_entries}
 use Rattle.cell_certificate.proofs.Multiples.{divides_whole, multiple_is, less_fits, rise_less}
 use Rattle.cell_certificate.proofs.Together.{pairs_map}
 use Rattle.cayley.specs.Resting.{normal_over}
 use Rattle.cayley.proofs.OneCell.CellRows.{rows_count}
 use Rattle.cayley.proofs.OneCell.RestingGaps.{level_from}
+use Rattle.cayley.proofs.OneCell.Unperturbed.{same_unperturbed, same_well, same_of, same_independent}
 
 lcm_up : (n j l : ℕ) (rows : List (List ℤ)) → IsReduced n j rows → 0 < l → 0 < lcm_from j l rows
 unfolding lcm_from
@@ -71,7 +72,7 @@ entries_less j (x ∷ v) p h = (less_fits j x p h.0, entries_less j v p h.1)
 times_turned : (d j : ℕ) → d * j ≡ j * d
 times_turned d j = omega arith
 
-module _ (p : Problem) (cell : Cell) (well : IsProblem p) (even : HasNoRanks p.supports) (of : IsOf p cell) (ind : IsIndependent p cell)
+module _ (p : Problem) (cell : Cell) (well : IsProblem p) (of : IsOf p cell) (ind : IsIndependent p cell)
     (d : ℕ) (v : List ℤ) (long : length v ≡ p.dimension) (up : 0 < d) (coprime : IsCoprime (pos d ∷ v)) (level : IsLevelAt p cell v (pos d)) where
   module _ (made : List (List ℤ)) (red : IsReducedOf p.dimension (edge_rows p cell) made) where
     abbrev pub l : ℕ
@@ -90,12 +91,14 @@ module _ (p : Problem) (cell : Cell) (well : IsProblem p) (even : HasNoRanks p.s
     l_positive = let h = l_up in omega (arith, ints, h)
 
     own : IsLevelAt p cell ps (pos l)
-    own = level_to p cell even of ps (pos l) ps_long l_positive
+    own = level_to p cell of ps (pos l) ps_long l_positive
         (level_from p.dimension 0 p.supports cell ps (pos l) ps_long well.points of (solved p.dimension (edge_rows p cell) made red))
 
     proportion : scale (pos d) ps ≡ scale (pos l) v
     proportion =
-        let s = same_values p cell time_zero (normal_over ps (pos l) own.0) (normal_over v (pos d) level.0) well of ind own.1 level.1 0 in
+        let q = unperturbed p in
+        let same = same_unperturbed p in
+        let s = same_values q cell time_zero (normal_over ps (pos l) own.0) (normal_over v (pos d) level.0) (same_well p q same well) (same_of p q cell same of) (same_independent p q cell same ind) own.1 level.1 0 in
         ap (scale (pos d)) (sym (first_entries ps)) ∙ s ∙ ap (scale (pos l)) (first_entries v)
 
     abbrev j : ℕ
@@ -132,7 +135,7 @@ module _ (p : Problem) (cell : Cell) (well : IsProblem p) (even : HasNoRanks p.s
   by_result : (r : Result (List (List ℤ)) (List ℤ)) → elimination p.dimension (edge_rows p cell) ≡ r → FitsWritten p cell → FitsFurther p cell v (pos d)
   by_result (Ok made) e w =
       let m = rows_lengths p cell well of in
-      reduced_further made (reduced_means p.dimension m.0 (edge_rows p cell) made (rows_count p cell well of) m.2 e) (w.1 made e)
+      reduced_further made (reduced_means p.dimension m.0 (edge_rows p cell) made (rows_count p cell well of) m.2 e) (w.1 made e).0
   by_result (Err kernel) e w =
       let m = rows_lengths p cell well of in
       absurd (kernel_dependent p cell kernel (cell_kernel p cell kernel well of (kernel_means_it p.dimension m.0 (edge_rows p cell) kernel (rows_count p cell well of) m.2 e)) ind)
@@ -152,14 +155,14 @@ module _ (p : Problem) (cell : Cell) (well : IsProblem p) (even : HasNoRanks p.s
   natural_further : FitsWritten p cell → FitsFurther p cell v (pos d)
   natural_further w = by_result (elimination p.dimension (edge_rows p cell)) refl w
 
-pub further_fits : (p : Problem) (cell : Cell) → IsProblem p → HasNoRanks p.supports → IsOf p cell → IsIndependent p cell
+pub further_fits : (p : Problem) (cell : Cell) → IsProblem p → IsOf p cell → IsIndependent p cell
     → (den : ℤ) (v : List ℤ) → length v ≡ p.dimension → pos 0 <ℤ den → IsCoprime (den ∷ v) → IsLevelAt p cell v den → FitsWritten p cell → FitsFurther p cell v den
-further_fits p cell well even of ind (pos d) v long h coprime level w = natural_further p cell well even of ind d v long (omega (arith, ints, h)) coprime level w
-further_fits p cell well even of ind (negsuc d) v long h coprime level w = absurd (omega (arith, ints, h))
+further_fits p cell well of ind (pos d) v long h coprime level w = natural_further p cell well of ind d v long (omega (arith, ints, h)) coprime level w
+further_fits p cell well of ind (negsuc d) v long h coprime level w = absurd (omega (arith, ints, h))
 
 -- where the common denominator and the shares fit, so do the numbers of the normal in lowest terms
-pub entries_fit : (p : Problem) (cell : Cell) → IsProblem p → HasNoRanks p.supports → IsOf p cell → IsIndependent p cell
+pub entries_fit : (p : Problem) (cell : Cell) → IsProblem p → IsOf p cell → IsIndependent p cell
     → (den : ℤ) (v : List ℤ) → length v ≡ p.dimension → pos 0 <ℤ den → IsCoprime (den ∷ v) → IsLevelAt p cell v den
     → ((made : List (List ℤ)) → elimination p.dimension (edge_rows p cell) ≡ Ok made → FitsNumbers p.dimension made) → FitsWhole den × Each v FitsWhole
-entries_fit p cell well even of ind (pos d) v long h coprime level f = natural_entries p cell well even of ind d v long (omega (arith, ints, h)) coprime level f
-entries_fit p cell well even of ind (negsuc d) v long h coprime level f = absurd (omega (arith, ints, h))
+entries_fit p cell well of ind (pos d) v long h coprime level f = natural_entries p cell well of ind d v long (omega (arith, ints, h)) coprime level f
+entries_fit p cell well of ind (negsuc d) v long h coprime level f = absurd (omega (arith, ints, h))

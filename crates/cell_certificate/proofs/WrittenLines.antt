@@ -15,16 +15,15 @@ use Rattle.cell_certificate.specs.declared.judgement.Judgement.{Judgement}
 use Rattle.cell_certificate.specs.declared.judgement.Judgement.TheVariants.{Passes, Unfit, Order, Dependent, NotLevel, NotLess, NotLowest}
 use Rattle.cell_certificate.specs.declared.verdict.Verdict.TheVariants.{Yes, No}
 use Rattle.cell_certificate.specs.declared.verdict.CheckFault.TheVariants.{Overflow, OutOfMemory}
-use Rattle.cell_certificate.specs.Judgements.{IsJudged, FirstRefused, FitsRows, HasLevel, HasLeast, HasLowest}
+use Rattle.cell_certificate.specs.Judgements.{IsJudged, FirstRefused, FitsRows, HasLevel, HasTies, HasLeast, HasLowest}
 use Rattle.cell_certificate.specs.Tests.{Follows}
 use Rattle.cell_certificate.specs.Sums.{FitsOwn, FitsFurther}
 use Rattle.cell_certificate.specs.Answers.{Answer, IsAnswer, WrongAt, TooLargeAt, reason_of}
 use Rattle.cell_certificate.specs.Written.{IsListed, AreListed, IsWritten, FitsWritten, SparesWritten}
-use Rattle.cell_certificate.proofs.Levels.{even_of}
+use Rattle.cell_certificate.proofs.OneAnswer.{never_unfit}
 use Rattle.cell_certificate.proofs.LowestLevel.{lowest_level}
 use Rattle.cell_certificate.proofs.PlainPoints.{valid_of, own_points}
 use Rattle.cell_certificate.proofs.WorkedSums.{further_fits}
-use Rattle.cayley.specs.Resting.{normal_over}
 
 -- what is right of a line
 record Right (p : Problem) (x : ListedCell) : Type 0 where
@@ -32,6 +31,7 @@ record Right (p : Problem) (x : ListedCell) : Type 0 where
   independent : IsIndependent p x.cell
   further : FitsFurther p x.cell x.normal.v x.normal.den
   level : HasLevel p x
+  ties : HasTies p x
   least : HasLeast p x
   lowest : HasLowest x
 
@@ -46,15 +46,15 @@ module _ (file : File) (valid : IsValidFile file) where
   line_right x l m n w =
       let p = plain_problem file in
       let well = (valid_of file valid).shape.problem in
-      let even = even_of file valid in
       let alive = subst (λ q. IsAlive q x.cell time_zero) (own_points file valid) m in
-      let level = lowest_level p x.cell even l.0 x.normal.v x.normal.den n.2.0 l.1 n.0 (subst (λ q. IsNormal q x.cell time_zero n.2.0) (own_points file valid) n.2.1) n.2.2 in
+      let level = lowest_level p x.cell l.0 x.normal.v x.normal.den n.2.0 l.1 n.0 (subst (λ q. IsNormal q x.cell time_zero n.2.0) (own_points file valid) n.2.1) n.2.2 in
       record {
         rows = w.0;
         independent = alive.1;
-        further = further_fits p x.cell well even l.0 alive.1 x.normal.den x.normal.v l.1 n.0 n.1 level w;
+        further = further_fits p x.cell well l.0 alive.1 x.normal.den x.normal.v l.1 n.0 n.1 level w;
         level = level;
-        least = (level.0, all_above_any p x.cell time_zero (normal_over x.normal.v x.normal.den level.0) well level.1 alive);
+        ties = λ v made e j c f z. (w.1 made e.1).1 v j c f;
+        least = λ u n. all_above_any p x.cell time_zero u well n alive;
         lowest = n.1;
       }
 
@@ -82,8 +82,8 @@ no_reason p before x reason Unfit f r e d = none_is reason e
 no_reason p before x reason Order f r e d = d f
 no_reason p before x reason Dependent f r e d = d.2 r.independent
 no_reason p before x reason NotLevel f r e d = d.2 r.level
-no_reason p before x reason NotLess f r e d = d.3 r.least
-no_reason p before x reason NotLowest f r e d = d.4 r.lowest
+no_reason p before x reason NotLess f r e d = d.4 r.least
+no_reason p before x reason NotLowest f r e d = d.5 r.lowest
 
 no_wrong : (p : Problem) (before : Option Cell) (lines : List ListedCell) (number reason : ℕ) → Starts before lines → IsSorted (map (λ (x : ListedCell). x.cell) lines) → Each lines (Right p)
     → FirstRefused p before lines (WrongAt p number reason) → ⊥
@@ -94,7 +94,7 @@ no_wrong p before (x ∷ lines) number reason f s r (inr w) = let n = next_start
 
 own_unfit : (p : Problem) (before : Option Cell) (x : ListedCell) → Right p x → IsJudged p before x Unfit → ¬ (FitsOwn p x.cell x.normal.v x.normal.den)
 own_unfit p before x r (inl d) o = d.1 r.rows
-own_unfit p before x r (inr d) o = d.1 (o, r.further)
+own_unfit p before x r (inr d) o = never_unfit p x d.1 (o, r.further) (λ l. r.ties)
 
 own_large : (p : Problem) (before : Option Cell) (lines : List ListedCell) (number : ℕ) → Each lines (Right p) → FirstRefused p before lines (TooLargeAt p number)
     → FirstRefused p before lines (λ before x. (x.line ≡ number) × ¬ (FitsOwn p x.cell x.normal.v x.normal.den))

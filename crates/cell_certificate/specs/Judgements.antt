@@ -9,7 +9,7 @@ use Rattle.listing_text.specs.declared.listing.ListedCell.{ListedCell}
 use Rattle.cell_certificate.specs.declared.judgement.Judgement.{Judgement}
 use Rattle.cell_certificate.specs.declared.judgement.Judgement.TheVariants.{Passes, Unfit, Order, Dependent, NotLevel, NotLess, NotLowest}
 use Rattle.cell_certificate.specs.Sums.{FitsSums}
-use Rattle.cell_certificate.specs.Tests.{Follows, IsLevelAt, IsLeastAt}
+use Rattle.cell_certificate.specs.Tests.{Follows, IsLevelAt, IsLeast, FitsTies}
 
 -- the elimination of the cell's rows, with its kernel, fits
 abbrev pub FitsRows : Problem → ListedCell → Type 0
@@ -22,8 +22,12 @@ HasSums p x = FitsSums p x.cell x.normal.v x.normal.den
 abbrev pub HasLevel : Problem → ListedCell → Type 0
 HasLevel p x = IsLevelAt p x.cell x.normal.v x.normal.den
 
+-- the circuits by which points of sum 0 are told can be formed
+abbrev pub HasTies : Problem → ListedCell → Type 0
+HasTies p x = FitsTies p x.cell x.normal.v x.normal.den
+
 abbrev pub HasLeast : Problem → ListedCell → Type 0
-HasLeast p x = IsLeastAt p x.cell x.normal.v x.normal.den
+HasLeast p x = IsLeast p x.cell
 
 abbrev pub HasLowest : ListedCell → Type 0
 HasLowest x = IsCoprime (x.normal.den ∷ x.normal.v)
@@ -36,21 +40,21 @@ HasGoodCell p before x = Follows before x.cell × FitsRows p x × IsIndependent 
 abbrev pub IsNormalJudged : Problem → ListedCell → Judgement → Type 0
 IsNormalJudged p x Order = ⊥
 IsNormalJudged p x Dependent = ⊥
-IsNormalJudged p x Unfit = ¬ (HasSums p x)
+IsNormalJudged p x Unfit = ¬ (HasSums p x) ⊎ (HasSums p x × HasLevel p x × ¬ (HasTies p x))
 IsNormalJudged p x NotLevel = HasSums p x × ¬ (HasLevel p x)
-IsNormalJudged p x NotLess = HasSums p x × HasLevel p x × ¬ (HasLeast p x)
-IsNormalJudged p x NotLowest = HasSums p x × HasLevel p x × HasLeast p x × ¬ (HasLowest x)
-IsNormalJudged p x Passes = HasSums p x × HasLevel p x × HasLeast p x × HasLowest x
+IsNormalJudged p x NotLess = HasSums p x × HasLevel p x × HasTies p x × ¬ (HasLeast p x)
+IsNormalJudged p x NotLowest = HasSums p x × HasLevel p x × HasTies p x × HasLeast p x × ¬ (HasLowest x)
+IsNormalJudged p x Passes = HasSums p x × HasLevel p x × HasTies p x × HasLeast p x × HasLowest x
 
 -- a line, after the cell of the line before, is judged so
 abbrev pub IsJudged : Problem → Option Cell → ListedCell → Judgement → Type 0
 IsJudged p before x Order = ¬ (Follows before x.cell)
-IsJudged p before x Unfit = (Follows before x.cell × ¬ (FitsRows p x)) ⊎ (HasGoodCell p before x × ¬ (HasSums p x))
 IsJudged p before x Dependent = Follows before x.cell × FitsRows p x × ¬ (IsIndependent p x.cell)
+IsJudged p before x Unfit = (Follows before x.cell × ¬ (FitsRows p x)) ⊎ (HasGoodCell p before x × IsNormalJudged p x Unfit)
 IsJudged p before x NotLevel = HasGoodCell p before x × HasSums p x × ¬ (HasLevel p x)
-IsJudged p before x NotLess = HasGoodCell p before x × HasSums p x × HasLevel p x × ¬ (HasLeast p x)
-IsJudged p before x NotLowest = HasGoodCell p before x × HasSums p x × HasLevel p x × HasLeast p x × ¬ (HasLowest x)
-IsJudged p before x Passes = HasGoodCell p before x × HasSums p x × HasLevel p x × HasLeast p x × HasLowest x
+IsJudged p before x NotLess = HasGoodCell p before x × HasSums p x × HasLevel p x × HasTies p x × ¬ (HasLeast p x)
+IsJudged p before x NotLowest = HasGoodCell p before x × HasSums p x × HasLevel p x × HasTies p x × HasLeast p x × ¬ (HasLowest x)
+IsJudged p before x Passes = HasGoodCell p before x × HasSums p x × HasLevel p x × HasTies p x × HasLeast p x × HasLowest x
 
 -- every line passes, after the cell of the line before
 abbrev pub AllPass : Problem → Option Cell → List ListedCell → Type 0

@@ -1,7 +1,7 @@
 pub mod Sums
 pub mod Sides
 pub mod Tests
-pub mod Ranks
+pub mod Ties
 pub mod Judgements
 pub mod Answers
 pub mod Written

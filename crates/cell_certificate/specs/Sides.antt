@@ -4,19 +4,16 @@ use Rattle.cayley.specs.declared.points.FilePoint.{FilePoint as StoredPoint}
 use Rattle.cayley.specs.Stored.{file_point}
 use Rattle.cayley.specs.Valid.{IsWithinFile}
 use Rattle.cayley.specs.Files.{FilePoint, resting}
-use Rattle.cayley.specs.Problems.{Point, Problem, with_rank, point_at}
-use Rattle.cayley.specs.Cells.{Cell}
+use Rattle.cayley.specs.Problems.{Point, Problem, point_at}
+use Rattle.cayley.specs.Cells.{Cell, EachPair}
 use Rattle.cell_certificate.specs.declared.sides.Sides.{Sides}
-use Rattle.cell_certificate.specs.Sums.{FitsRise, FitsAt, RisesAt}
-use Rattle.cell_certificate.specs.Tests.{IsLevelAt, IsLeastAt}
+use Rattle.cell_certificate.specs.Sums.{FitsRise, FitsAt, RisesAt, UntiedAt}
+use Rattle.cell_certificate.specs.Tests.{IsLevelAt}
 use Rattle.cayley.specs.Resting.{rise}
 
--- a file point as a point of the problem of the file's points alone
-abbrev pub at_rest : FilePoint → Point
-at_rest x = with_rank 0 (resting x)
-
+-- a file point as a point of the problem of the file's points alone, without its infinitesimal
 abbrev pub seen : StoredPoint → Point
-seen x = at_rest (file_point x)
+seen x = resting (file_point x)
 
 -- n coordinates and numbers within the limits
 abbrev pub IsNear : ℕ → FilePoint → Type 0
@@ -30,11 +27,14 @@ IsPairOf m pair = (1 ≤ pair.0) × (pair.0 < pair.1) × (pair.1 ≤ m)
 abbrev pub FitsSupport : ℤ → List ℤ → List Point → ℕ → ℕ → Type 0
 FitsSupport den v s a b = FitsRise den v (point_at s a) (point_at s b) × ((c : ℕ) → FitsAt den v s a b c)
 
--- both points of the pair are level, and each further point is above
+-- both points of the pair are level, each further point rises, and none is tied
 abbrev pub Shows : ℤ → List ℤ → List Point → ℕ → ℕ → Sides → Type 0
 Shows den v s a b sides = (IsTrue sides.level ↔ (rise den v (point_at s a) (point_at s b) ≡ pos 0))
     × (IsTrue sides.above ↔ ((c : ℕ) → RisesAt den v s a b c))
+    × (IsTrue sides.untied ↔ ((c : ℕ) → UntiedAt den v s a b c))
 
--- of a line: v / den makes both points of each pair equal, and has each further point above
+-- of a line: v / den makes both points of each pair equal, each further point's sum is positive, and none is 0
 abbrev pub ShowsAll : Problem → Cell → List ℤ → ℤ → Sides → Type 0
-ShowsAll p cell v den sides = (IsTrue sides.level ↔ IsLevelAt p cell v den) × (IsTrue sides.above ↔ IsLeastAt p cell v den)
+ShowsAll p cell v den sides = (IsTrue sides.level ↔ IsLevelAt p cell v den)
+    × (IsTrue sides.above ↔ EachPair p.supports cell (λ s a b. (c : ℕ) → RisesAt den v s a b c))
+    × (IsTrue sides.untied ↔ EachPair p.supports cell (λ s a b. (c : ℕ) → UntiedAt den v s a b c))

@@ -1,5 +1,5 @@
 -- The sums that tell a normal v over den: which point lies above, level or below, and which of their numbers fit.
-use Rattle.std.specs.Prelude.{List, ℕ, ℤ, pos, ◌<ℤ◌, ◌*ℤ◌, ◌-ℤ◌}
+use Rattle.std.specs.Prelude.{◌≢◌, List, ℕ, ℤ, pos, ◌<ℤ◌, ◌*ℤ◌, ◌-ℤ◌}
 use Rattle.int_vectors.specs.Fits.{FitsSum}
 use Rattle.int_vectors.specs.Vectors.{sub}
 use Rattle.cayley.specs.Problems.{Point, Problem, point_at}
@@ -16,6 +16,10 @@ FitsAt den v s a b c = IsFurther s a b c → FitsRise den v (point_at s a) (poin
 
 abbrev pub RisesAt : ℤ → List ℤ → List Point → ℕ → ℕ → ℕ → Type 0
 RisesAt den v s a b c = IsFurther s a b c → pos 0 <ℤ rise den v (point_at s a) (point_at s c)
+
+-- a further point's sum isn't 0
+abbrev pub UntiedAt : ℤ → List ℤ → List Point → ℕ → ℕ → ℕ → Type 0
+UntiedAt den v s a b c = IsFurther s a b c → rise den v (point_at s a) (point_at s c) ≢ pos 0
 
 -- the sum of each pair's own second point fits
 abbrev pub FitsOwn : Problem → Cell → List ℤ → ℤ → Type 0

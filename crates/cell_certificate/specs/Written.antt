@@ -3,11 +3,13 @@ use Rattle.std.specs.Prelude.{◌≡◌, ℕ, List, None, Ok, Err, length, map, 
 use Rattle.int_vectors.specs.Vectors.{Each}
 use Rattle.reduced_rows.specs.Denominators.{lcm_from, shares}
 use Rattle.reduced_rows.specs.Steps.{elimination, FitsElimination}
-use Rattle.cayley.specs.Problems.{Problem}
+use Rattle.cayley.specs.Problems.{version2, Problem}
 use Rattle.cayley.specs.Files.{plain_problem}
 use Rattle.cayley.specs.Rows.{edge_rows}
 use Rattle.cayley.specs.Cells.{Cell, IsOf, IsSorted}
+use Rattle.cayley.specs.Dependencies.{IsFurtherAt}
 use Rattle.cayley.specs.Mixed.{IsMixedCell, IsLowestNormal}
+use Rattle.inner_normal.specs.Coefficients.{FitsCircuit}
 use Rattle.listing_text.specs.declared.listing.Listing.{Listing}
 use Rattle.listing_text.specs.declared.listing.ListedCell.{ListedCell}
 use Rattle.cell_certificate.specs.Sums.{FitsOwn, FitsFurther}
@@ -29,11 +31,12 @@ pub record AreMixed (listing : Listing) : Type 0 where
   pub cells : Each listing.cells.items (λ x. IsMixedCell (plain_problem listing.file) x.cell)
   pub normals : Each listing.cells.items (λ x. IsLowestNormal (plain_problem listing.file) x.cell x.normal.v x.normal.den)
 
--- the elimination of the cell fits, and so do the sums of its further points under the normal that it gives
+-- the elimination of the cell fits, and so do the sums of its further points under the normal that it gives, and in version 2 their circuits
 abbrev pub FitsWritten : Problem → Cell → Type 0
 FitsWritten p cell = FitsElimination p.dimension (edge_rows p cell)
     × ((made : List (List ℤ)) → elimination p.dimension (edge_rows p cell) ≡ Ok made
-    → FitsFurther p cell (shares p.dimension 0 (lcm_from 0 1 made) made) (pos (lcm_from 0 1 made)))
+    → FitsFurther p cell (shares p.dimension 0 (lcm_from 0 1 made) made) (pos (lcm_from 0 1 made))
+    × (p.version ≡ version2 → (j c : ℕ) → IsFurtherAt p cell j c → FitsCircuit p cell j c made))
 
 -- a listing that a lister wrote: it refuses a cell whose working doesn't fit
 pub record IsWritten (listing : Listing) : Type 0 where

@@ -60,8 +60,11 @@ fn answer(alloc: Global, listing: &Listing) -> Result<Verdict, CheckFault>
 /// 3. Reason 2: the differences of its pairs are dependent.
 /// 4. Overflow: a number of one of its sums doesn't fit.
 /// 5. Reason 3: the sum of some pair's second point isn't 0.
-/// 6. Reason 4: the sum of some further point isn't positive.
-/// 7. Reason 5: the normal's numbers and the denominator have a common divisor other than 1.
+/// 6. Overflow, where heights have infinitesimals: the sum of some further point is 0, and a number
+///    of the cell's denominator or of that point's circuit doesn't fit.
+/// 7. Reason 4: some further point isn't above. Its sum is negative, or is 0, but for heights with
+///    infinitesimals where the first number of its circuit that isn't 0, in order of rank, is positive.
+/// 8. Reason 5: the normal's numbers and the denominator have a common divisor other than 1.
 pub fn check(alloc: Global, listing: &Listing) -> Result<Verdict, CheckFault>
     requires listed { AreListed listing.now }
     ensures yes { HadMemory result → (result ≡ Ok verdicts.Yes) ↔ IsRight listing.now }

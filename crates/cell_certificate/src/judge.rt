@@ -1,19 +1,25 @@
-ghost use Rattle.std.specs.Prelude.{◌≡◌, ◌↔◌, ◌∷◌, ◌<ℤ◌, pos, Option, None, Some, IsTrue, IfOk};
+ghost use Rattle.std.specs.Prelude.{◌≡◌, ◌↔◌, ◌∷◌, ◌<ℤ◌, pos, Option, None, Some, IsTrue, IfOk, MatchResult};
 ghost use Rattle.std.specs.Option.{option_map};
-ghost use Rattle.cayley.specs.Cells.{IsOf, IsIndependent};
+ghost use Rattle.reduced_rows.specs.CellRefusals.{IsEliminated};
+ghost use Rattle.reduced_rows.specs.Refusals.{IsFromFault};
+ghost use Rattle.cayley.specs.Cells.{IsIndependent};
 ghost use Rattle.cayley.specs.Files.{plain_problem};
 ghost use Rattle.cayley.specs.Mixed.{IsCoprime};
-ghost use Rattle.cell_certificate.specs.Judgements.{IsNormalJudged, IsJudged};
-ghost use Rattle.cell_certificate.specs.Ranks.{IsRank};
+ghost use Rattle.cayley.specs.Problems.{version2};
+ghost use Rattle.cayley.specs.Rows.{edge_rows};
+ghost use Rattle.cell_certificate.specs.Judgements.{HasTies, HasLeast, IsNormalJudged, IsJudged};
+ghost use Rattle.cell_certificate.specs.Sides.{ShowsAll};
 ghost use Rattle.cell_certificate.specs.Tests.{Follows};
+ghost use Rattle.cell_certificate.specs.Ties.{IsLevelLine};
 ghost use Rattle.cell_certificate.specs.Written.{IsListed};
 
 use crate::judgement::Judgement;
-use crate::rank::Rank;
-use crate::sides::all_sides;
+use crate::sides::{Sides, all_sides};
+use crate::ties::are_over;
 use cayley::{Cell, LiftFile, Normal, Problem};
 use inner_normal::{CellFault, Eliminated};
 use listing_text::ListedCell;
+use reduced_rows::FromFault;
 use std::alloc::Global;
 use std::cmp::Ordering;
 use wide_int::{OutOfMemory, gcd};
@@ -28,19 +34,6 @@ fn follows(before: Option<&Cell>, cell: &Cell) -> bool
     }
 }
 
-// What the elimination tells of the differences of the cell's pairs.
-fn rank_of(alloc: Global, problem: &Problem, cell: &Cell) -> Result<Rank, OutOfMemory>
-    requires { IsOf problem.now cell.now }
-    ensures { IfOk result (λ rank. IsRank problem.now cell.now rank) }
-{
-    match Eliminated::of(alloc, problem, cell) {
-        Ok(_) => Ok(Rank::Full),
-        Err(CellFault::Dependent { .. }) => Ok(Rank::Less),
-        Err(CellFault::Overflow) => Ok(Rank::Unfit),
-        Err(CellFault::OutOfMemory) => Err(OutOfMemory),
-    }
-}
-
 // Whether no number but 1 divides the denominator and each number of the normal.
 fn is_lowest(normal: &Normal) -> bool
     requires { pos 0 <ℤ normal.now.den }
@@ -49,24 +42,78 @@ fn is_lowest(normal: &Normal) -> bool
     gcd(normal.den, normal.v.content()) == 1
 }
 
+// Whether the heights of a file have infinitesimals.
+fn is_perturbed(file: &LiftFile) -> bool
+    ensures { IsTrue result ↔ (file.now.version ≡ version2) }
+{
+    file.version() == 2
+}
+
+// Whether each further point is above, by what the sums tell. `Overflow` exactly where the circuit of
+// a point of sum 0 is needed and a number of it doesn't fit.
+fn is_least(
+    alloc: Global,
+    file: &LiftFile,
+    problem: &Problem,
+    eliminated: &Eliminated,
+    listed: &ListedCell,
+    sides: Sides,
+) -> Result<bool, FromFault>
+    requires same { problem.now ≡ plain_problem file.now }
+    requires level { IsLevelLine problem.now listed.now }
+    requires eliminated { IsEliminated problem.now.dimension (edge_rows problem.now listed.now.cell) eliminated.now }
+    requires sides { ShowsAll problem.now listed.now.cell listed.now.normal.v listed.now.normal.den sides }
+    ensures { MatchResult result
+        (λ least. HasTies problem.now listed.now × (IsTrue least ↔ HasLeast problem.now listed.now))
+        (IsFromFault (HasTies problem.now listed.now)) }
+{
+    // A problem is valid by its type, as its readers tell.
+    let _dim = problem.dim();
+    if sides.untied {
+        return Ok(sides.above);
+    }
+    if !is_perturbed(file) {
+        return Ok(sides.above);
+    }
+    let inverse = match eliminated.inverse(alloc) {
+        Ok(inverse) => inverse,
+        Err(fault) => return Err(fault),
+    };
+    are_over(alloc, file, problem, &inverse, listed)
+}
+
 // What is said of a line whose cell is in order and independent, by its normal.
-fn judge_normal(file: &LiftFile, listed: &ListedCell) -> Judgement
-    requires { IsListed (plain_problem file.now) listed.now }
-    ensures { IsNormalJudged (plain_problem file.now) listed.now result }
+fn judge_normal(
+    alloc: Global,
+    file: &LiftFile,
+    problem: &Problem,
+    eliminated: &Eliminated,
+    listed: &ListedCell,
+) -> Result<Judgement, OutOfMemory>
+    requires listed { IsListed problem.now listed.now }
+    requires same { problem.now ≡ plain_problem file.now }
+    requires independent { IsIndependent problem.now listed.now.cell }
+    requires eliminated { IsEliminated problem.now.dimension (edge_rows problem.now listed.now.cell) eliminated.now }
+    ensures { IfOk result (λ judgement. IsNormalJudged problem.now listed.now judgement) }
 {
     let Some(sides) = all_sides(file, listed) else {
-        return Judgement::Unfit;
+        return Ok(Judgement::Unfit);
     };
     if !sides.level {
-        return Judgement::NotLevel;
+        return Ok(Judgement::NotLevel);
     }
-    if !sides.above {
-        return Judgement::NotLess;
+    let least = match is_least(alloc, file, problem, eliminated, listed, sides) {
+        Ok(least) => least,
+        Err(FromFault::Overflow) => return Ok(Judgement::Unfit),
+        Err(FromFault::OutOfMemory) => return Err(OutOfMemory),
+    };
+    if !least {
+        return Ok(Judgement::NotLess);
     }
     if is_lowest(&listed.normal) {
-        Judgement::Passes
+        Ok(Judgement::Passes)
     } else {
-        Judgement::NotLowest
+        Ok(Judgement::NotLowest)
     }
 }
 
@@ -78,16 +125,17 @@ pub(crate) fn judge(
     before: Option<&Cell>,
     listed: &ListedCell,
 ) -> Result<Judgement, OutOfMemory>
-    requires listed { IsListed (plain_problem file.now) listed.now }
+    requires listed { IsListed problem.now listed.now }
     requires same { problem.now ≡ plain_problem file.now }
-    ensures { IfOk result (λ judgement. IsJudged (plain_problem file.now) (option_map (λ b. b.now) before.entry) listed.now judgement) }
+    ensures { IfOk result (λ judgement. IsJudged problem.now (option_map (λ b. b.now) before.entry) listed.now judgement) }
 {
     if !follows(before, &listed.cell) {
         return Ok(Judgement::Order);
     }
-    match rank_of(alloc, problem, &listed.cell)? {
-        Rank::Full => Ok(judge_normal(file, listed)),
-        Rank::Less => Ok(Judgement::Dependent),
-        Rank::Unfit => Ok(Judgement::Unfit),
+    match Eliminated::of(alloc, problem, &listed.cell) {
+        Ok(eliminated) => judge_normal(alloc, file, problem, &eliminated, listed),
+        Err(CellFault::Dependent { .. }) => Ok(Judgement::Dependent),
+        Err(CellFault::Overflow) => Ok(Judgement::Unfit),
+        Err(CellFault::OutOfMemory) => Err(OutOfMemory),
     }
 }

@@ -2,7 +2,7 @@
 #[derive(Clone, Copy)]
 pub(crate) enum Judgement {
     Passes,
-    // A number of the elimination, of the kernel or of a sum doesn't fit.
+    // A number of the elimination, of the kernel, of a sum or of a circuit that is needed doesn't fit.
     Unfit,
     Order,
     Dependent,

@@ -4,8 +4,8 @@
 mod checker;
 mod judge;
 mod judgement;
-mod rank;
 mod sides;
+mod ties;
 mod verdict;
 
 pub use checker::check;

@@ -63,6 +63,31 @@ fn are_listed(problem: &Problem, cells: &[ListedCell]) -> bool
     })
 }
 
+// Three points of a line of equal heights with infinitesimals, and a list of cells with the normal 0.
+fn level_points(alloc: Global, lines: &[(u64, (u32, u32))]) -> Result<Listing, Fail> {
+    let mut points = Vec::new(alloc);
+    for x in [0, 1, 2] {
+        let coords = IntVec::from_slice(alloc, &[x])?;
+        points.push(FilePoint { coords, height: 0 })?;
+    }
+    let mut supports = Vec::new(alloc);
+    supports.push(points)?;
+    let file = LiftFile::perturbed(alloc, 1, supports, None)?;
+    let mut cells = Vec::new(alloc);
+    for (line, pair) in lines {
+        let Some(cell) = Cell::new(alloc, &[*pair]) else {
+            return Err(Fail::from("not a cell"));
+        };
+        let v = IntVec::from_slice(alloc, &[0])?;
+        cells.push(ListedCell {
+            line: *line,
+            cell,
+            normal: Normal { v, den: 1 },
+        })?;
+    }
+    Ok(Listing { file, cells })
+}
+
 #[test]
 fn lines_are_judged_in_order(rt: HostRuntime) -> Result<(), Fail> {
     const GREATEST: i128 = i128::MAX;
@@ -112,6 +137,21 @@ fn lines_are_judged_in_order(rt: HostRuntime) -> Result<(), Fail> {
     ];
     for (lines, want) in table {
         let listing = listing(rt.alloc(), lines)?;
+        let problem = Problem::plain(rt.alloc(), &listing.file)?;
+        assert!(rt; are_listed(&problem, &listing.cells));
+        assert_eq!(rt; check(rt.alloc(), &listing), want);
+    }
+    Ok(())
+}
+
+#[test]
+fn points_of_sum_zero_are_told_by_their_circuits(rt: HostRuntime) -> Result<(), Fail> {
+    let table: [(&[(u64, (u32, u32))], Result<Verdict, CheckFault>); 2] = [
+        (&[(9, (1, 2)), (10, (2, 3))], Ok(Verdict::Yes)),
+        (&[(9, (1, 3))], Ok(Verdict::No { line: 9, reason: 4 })),
+    ];
+    for (lines, want) in table {
+        let listing = level_points(rt.alloc(), lines)?;
         let problem = Problem::plain(rt.alloc(), &listing.file)?;
         assert!(rt; are_listed(&problem, &listing.cells));
         assert_eq!(rt; check(rt.alloc(), &listing), want);

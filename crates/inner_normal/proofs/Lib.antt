@@ -12,3 +12,4 @@ pub mod Faults
 pub mod InverseSteps
 pub mod CoefficientSteps
 pub mod Bounded
+pub mod RankOrder

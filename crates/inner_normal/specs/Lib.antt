@@ -3,4 +3,5 @@ pub mod MovingNormals
 pub mod LowestForms
 pub mod Inverses
 pub mod Coefficients
+pub mod Orders
 pub mod LeastDenominators

@@ -3,7 +3,8 @@ use Rattle.std.specs.Option.{option_map}
 use Rattle.cayley.specs.Files.{plain_problem}
 use Rattle.listing_text.specs.declared.listing.ListedCell.{ListedCell}
 use Rattle.cell_certificate.specs.Answers.{WrongAt, TooLargeAt}
-use Rattle.cell_certificate.specs.Judgements.{AllPass, FirstRefused}
+use Rattle.cell_certificate.specs.Judgements.{IsJudged, AllPass, FirstRefused}
+use Rattle.cell_certificate.specs.Written.{IsListed}
 use Rattle.cell_certificate.proofs.Verdicts.{listed_at, left_is, stopped, went_on}
 use Rattle.cell_certificate.proofs.checker.answer.Goals as goal
 
@@ -13,7 +14,8 @@ judge-requires-clause-listed c =
     let e = c.deref-listed-items.ensures.value in
     let h : c.loop-listed.listed-index < length lines = omega (arith, c.loop-listed-test.true, ap length e) in
     let i = rw e at c.listed-item.is in
-    listed_at (plain_problem c.args.listing.now.file) lines c.loop-listed.listed-index c.listed-item.result c.requires h i
+    subst (λ q. IsListed q c.listed-item.result) (sym c.in-Ok.ensures)
+    (listed_at (plain_problem c.args.listing.now.file) lines c.loop-listed.listed-index c.listed-item.result c.requires h i)
 
 pub returns-in-Some : goal.returns-in-Some
 returns-in-Some c =
@@ -31,7 +33,8 @@ returns-in-Some c =
     stopped listing before x (drop (k + 1) lines)
     (λ number reason f. inv.wrong number reason (subst (λ (ls : List ListedCell). FirstRefused p before ls (WrongAt p number reason)) (sym left) f))
     (λ number f. inv.large number (subst (λ (ls : List ListedCell). FirstRefused p before ls (TooLargeAt p number)) (sym left) f))
-    c.in-Ok-judge.judgement c.in-Some.answer c.in-Some.ensures c.in-Ok-judge.ensures
+    c.in-Ok-judge.judgement c.in-Some.answer c.in-Some.ensures
+    (subst (λ q. IsJudged q before x c.in-Ok-judge.judgement) c.in-Ok.ensures c.in-Ok-judge.ensures)
 
 pub loop-listed-preserved : goal.loop-listed-preserved
 loop-listed-preserved c =
@@ -46,7 +49,7 @@ loop-listed-preserved c =
     let left = left_is lines c.loop-listed.listed-index c.listed-item.result h i in
     let before = option_map (λ b. b.now) c.loop-listed.before in
     let inv = c.loop-listed.invariant in
-    let passes = went_on p before x x.line c.in-Ok-judge.judgement c.in_default-stop.ensures c.in-Ok-judge.ensures in
+    let passes = went_on p before x x.line c.in-Ok-judge.judgement c.in_default-stop.ensures (subst (λ q. IsJudged q before x c.in-Ok-judge.judgement) c.in-Ok.ensures c.in-Ok-judge.ensures) in
     record {
       right = λ a. inv.right (subst (AllPass p before) (sym left) (passes, a));
       wrong = λ number reason f. inv.wrong number reason (subst (λ (ls : List ListedCell). FirstRefused p before ls (WrongAt p number reason)) (sym left) (inr (passes, f)));
