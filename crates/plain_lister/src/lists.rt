@@ -83,14 +83,7 @@ fn list_choices<L: Ledger>(
     let mut found = Vec::new(alloc);
     let mut going = true;
     while going {
-        match turn(
-            alloc,
-            problem,
-            &mut wheels,
-            &mut pairs,
-            steps,
-            &mut found,
-        ) {
+        match turn(alloc, problem, &mut wheels, &mut pairs, steps, &mut found) {
             Ok(on) => going = on,
             Err(fault) => return Err(fault),
         }

@@ -21,13 +21,19 @@ fn of_file(alloc: Global, file: &LiftFile) -> Result<Problem, Fail>
 fn problem(alloc: Global, supports: Vec<Vec<FilePoint>>) -> Result<Problem, Fail>
     ensures { IfOk result (λ p. HasNoCorners p × IsStill p) }
 {
-    of_file(alloc, &LiftFile::new(alloc, supports.len(), supports, None)?)
+    of_file(
+        alloc,
+        &LiftFile::new(alloc, supports.len(), supports, None)?,
+    )
 }
 
 fn perturbed(alloc: Global, supports: Vec<Vec<FilePoint>>) -> Result<Problem, Fail>
     ensures { IfOk result (λ p. HasNoCorners p × IsStill p) }
 {
-    of_file(alloc, &LiftFile::perturbed(alloc, supports.len(), supports, None)?)
+    of_file(
+        alloc,
+        &LiftFile::perturbed(alloc, supports.len(), supports, None)?,
+    )
 }
 
 // The numbers of a point from a place on: its coordinates, then its height.

@@ -3,8 +3,8 @@ ghost use Rattle.search_core.specs.States.{IsSearcher};
 
 use crate::{Children2, Core, CoreBranch, CoreOutcome, Event, Hand, StepFault};
 use cayley::{Begin, Cell};
-use std::alloc::Global;
 use lex_height::Lex;
+use std::alloc::Global;
 use wide_int::Frac;
 
 type Pairs = [(u32, u32); 2];

@@ -28,25 +28,27 @@ turn-requires g c =
     let pairs = c.deref_mut-in-loop-going.ensures.value in
     let counts = c.requires.counts in
     λ lifetimes live. (
-      live, (
-      c.requires.valid,
+      live,
       (
-        c.requires.still,
+        c.requires.valid,
         (
-          c.requires.alone,
+          c.requires.still,
           (
-            refl,
+            c.requires.alone,
             (
-              subst₂ IsChoice counts (sym pairs) (i.choice t).0,
+              refl,
               (
-                subst₂ (λ m w. Show m w c.deref_mut-in-loop-going.result.now) counts (sym wheels) (subst (Show c.args.counts.now c.loop-going.wheels.items) (sym pairs) (i.choice t).1),
-                going_on c.args.problem.now c.loop-going.going c.loop-going.pairs.items c.deref_mut-in-loop-going.result.now c.loop-going.found.items t pairs i.done,
+                subst₂ IsChoice counts (sym pairs) (i.choice t).0,
+                (
+                  subst₂ (λ m w. Show m w c.deref_mut-in-loop-going.result.now) counts (sym wheels) (subst (Show c.args.counts.now c.loop-going.wheels.items) (sym pairs) (i.choice t).1),
+                  going_on c.args.problem.now c.loop-going.going c.loop-going.pairs.items c.deref_mut-in-loop-going.result.now c.loop-going.found.items t pairs i.done,
+                ),
               ),
             ),
           ),
         ),
       ),
-    ))
+    )
 
 pub returns : goal.returns
 returns g c =
