@@ -6,3 +6,4 @@ pub mod MakeLaw
 pub mod Caller
 pub mod Numbers
 pub mod Words
+pub mod Ranges

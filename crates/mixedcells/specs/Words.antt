@@ -1,5 +1,5 @@
--- The meaning of a list of words.
-use Rattle.std.specs.Prelude.{◌≡◌, ◌==◌, ◌&&◌, ◌||◌, ◌+◌, ◌^◌, ℕ, suc, Bool, true, false, List, [], ◌∷◌, ◌++◌, length, take, drop, codes, Option, Some, None, is_some, option_map, option_and_then, nat_le, slice_index_or, if◌then◌else◌}
+-- The meaning of the words after the program's name.
+use Rattle.std.specs.Prelude.{◌≡◌, ◌==◌, ◌&&◌, ◌||◌, ◌+◌, ◌^◌, ℕ, suc, Bool, true, false, List, [], ◌∷◌, ◌++◌, length, take, drop, codes, Option, Some, None, is_some, option_map, option_and_then, nat_le, slice_index_or, IsTrue, if◌then◌else◌}
 use Rattle.std.specs.Char.{is_ascii_digit}
 use Rattle.std.specs.List.{list_all}
 use Rattle.std.specs.Str.{bytes_eq}
@@ -10,6 +10,8 @@ use Rattle.mixedcells.specs.declared.words.meaning.Family.{Family}
 use Rattle.mixedcells.specs.declared.words.meaning.Family.TheVariants as family
 use Rattle.mixedcells.specs.declared.words.meaning.Meaning.{Meaning}
 use Rattle.mixedcells.specs.declared.words.meaning.Meaning.TheVariants as meaning
+use Rattle.mixedcells.specs.declared.words.Command.{Command}
+use Rattle.mixedcells.specs.declared.words.Command.TheVariants as verb
 
 -- ---- numbers
 
@@ -129,6 +131,37 @@ meaning_after w ws =
 abbrev pub meaning_of : List Text → Option Meaning
 meaning_of [] = None
 meaning_of (w ∷ ws) = meaning_after w ws
+
+-- ---- the commands that there are
+
+-- the command that is built for a meaning
+abbrev pub built : Meaning → Option Command
+built meaning.Plain = Some verb.Plain
+built meaning.Check = Some verb.Check
+built (meaning.Make family seed) = Some (verb.Make family seed)
+built meaning.Generic = None
+built (meaning.List searchers) = None
+built (meaning.Sum searchers) = None
+
+abbrev pub command_for : List Text → Option Command
+command_for words = option_and_then built (meaning_of words)
+
+-- the words ask for this command
+abbrev pub Means : List Text → Command → Type 0
+Means words command = command_for words ≡ Some command
+
+abbrev pub HasMeaning : List Text → Type 0
+HasMeaning words = (command : Command) × Means words command
+
+-- whether a command reads its input
+abbrev pub reads : Command → Bool
+reads verb.Plain = true
+reads verb.Check = true
+reads (verb.Make family seed) = false
+
+-- the words ask for a command that reads its input
+abbrev pub IsReading : List Text → Type 0
+IsReading words = (command : Command) × Means words command × IsTrue (reads command)
 
 -- ---- the same, of what was read
 
