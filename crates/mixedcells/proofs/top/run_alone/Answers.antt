@@ -1,4 +1,4 @@
-use Rattle.std.proofs.Common.{inr, Some}
+use Rattle.std.proofs.Common.{inr, Some, map, string_bytes}
 use Rattle.mixedcells.proofs.CommandLine.Words.{no_reader, reader}
 use Rattle.mixedcells.proofs.CommandLine.Ranges.{fits}
 use Rattle.mixedcells.proofs.Ended.{appends_as, usage_cut, usage_written}
@@ -18,63 +18,63 @@ returns-in-Ok-clause-cut_off g c = λ fault.
 
 pub returns-in-Ok-clause-exact : goal.returns-in-Ok-clause-exact
 returns-in-Ok-clause-exact g c = λ bytes o t left h.
-    comes _ bytes o _ t h (λ other. let w = returns-in-Ok-clause-written g c other in (w.0, known _ _ bytes _ _ left w.1))
+    comes (map string_bytes c.args.words.now) bytes o _ t h (λ other. let w = returns-in-Ok-clause-written g c other in (w.0, known (map string_bytes c.args.words.now) _ bytes _ _ left w.1))
 
 pub returns-in-Ok-clause-complete : goal.returns-in-Ok-clause-complete
 returns-in-Ok-clause-complete g c = λ bytes file left short means e many fit.
-    lists _ bytes file _ short means e many fit (λ other. let w = returns-in-Ok-clause-written g c other in (w.0, known _ _ bytes _ _ left w.1))
+    lists (map string_bytes c.args.words.now) bytes file _ short means e many fit (λ other. let w = returns-in-Ok-clause-written g c other in (w.0, known (map string_bytes c.args.words.now) _ bytes _ _ left w.1))
 
 pub returns-in-Ok-clause-listing : goal.returns-in-Ok-clause-listing
 returns-in-Ok-clause-listing g c = λ bytes left means ok.
     let w = returns-in-Ok-clause-written g c (ok_other _ ok) in
-    let l = ended_listed _ _ bytes _ w.0 left means ok w.1 in
+    let l = ended_listed (map string_bytes c.args.words.now) _ bytes _ w.0 left means ok w.1 in
     (l.0, l.1, (w.0, l.2, w.2))
 
 pub returns-in-Ok-clause-written_listing : goal.returns-in-Ok-clause-written_listing
 returns-in-Ok-clause-written_listing g c = λ bytes left means ok.
     let w = returns-in-Ok-clause-written g c (ok_other _ ok) in
-    (w.0, plain_spared _ _ bytes _ w.0 left means ok w.1, w.2)
+    (w.0, plain_spared (map string_bytes c.args.words.now) _ bytes _ w.0 left means ok w.1, w.2)
 
 pub returns-in-Ok-clause-checked : goal.returns-in-Ok-clause-checked
 returns-in-Ok-clause-checked g c = λ bytes left means ok.
     let w = returns-in-Ok-clause-written g c (ok_other _ ok) in
-    checked _ bytes means _ _ w.0 left ok w.1
+    checked (map string_bytes c.args.words.now) bytes means _ _ w.0 left ok w.1
 
 pub returns-in-Ok-clause-judged : goal.returns-in-Ok-clause-judged
 returns-in-Ok-clause-judged g c = λ bytes listing left short means text fit.
-    judged _ bytes means listing _ short text fit (λ other. let w = returns-in-Ok-clause-written g c other in (w.0, known _ _ bytes _ _ left w.1))
+    judged (map string_bytes c.args.words.now) bytes means listing _ short text fit (λ other. let w = returns-in-Ok-clause-written g c other in (w.0, known (map string_bytes c.args.words.now) _ bytes _ _ left w.1))
 
 pub returns-in-Ok-clause-spares : goal.returns-in-Ok-clause-spares
 returns-in-Ok-clause-spares g c = λ bytes left means written.
-    spares _ bytes means written _ (λ other. let w = returns-in-Ok-clause-written g c other in (w.0, known _ _ bytes _ _ left w.1))
+    spares (map string_bytes c.args.words.now) bytes means written _ (λ other. let w = returns-in-Ok-clause-written g c other in (w.0, known (map string_bytes c.args.words.now) _ bytes _ _ left w.1))
 
 pub returns-in-Ok-clause-made : goal.returns-in-Ok-clause-made
 returns-in-Ok-clause-made g c = λ family seed means.
-    makes _ _ family seed _ means (λ other. let w = returns-in-Ok-clause-written g c other in (w.0, w.1))
+    makes (map string_bytes c.args.words.now) _ family seed _ means (λ other. let w = returns-in-Ok-clause-written g c other in (w.0, w.1))
 
 pub returns-in-Ok-clause-made_text : goal.returns-in-Ok-clause-made_text
 returns-in-Ok-clause-made_text g c = λ family seed means ok.
     let w = returns-in-Ok-clause-written g c (ok_other _ ok) in
-    appends_as _ _ w.0 _ (called_made _ _ family seed _ w.0 means w.1).1 w.2
+    appends_as _ _ w.0 _ (called_made (map string_bytes c.args.words.now) _ family seed _ w.0 means w.1).1 w.2
 
 pub returns-in-Ok-clause-usage : goal.returns-in-Ok-clause-usage
 returns-in-Ok-clause-usage g c = λ none. absurd (none (c.in-Ok.command, c.in-Ok.ensures))
 
 pub returns-in-Ok-clause-unread : goal.returns-in-Ok-clause-unread
-returns-in-Ok-clause-unread g c = λ none. c.run_command.ensures.unread (no_reader _ c.in-Ok.command c.in-Ok.ensures none)
+returns-in-Ok-clause-unread g c = λ none. c.run_command.ensures.unread (no_reader (map string_bytes c.args.words.now) c.in-Ok.command c.in-Ok.ensures none)
 
 pub returns-in-Ok-clause-whole : goal.returns-in-Ok-clause-whole
-returns-in-Ok-clause-whole g c = λ other reading long. c.run_command.ensures.whole other (reader _ c.in-Ok.command c.in-Ok.ensures reading) long
+returns-in-Ok-clause-whole g c = λ other reading long. c.run_command.ensures.whole other (reader (map string_bytes c.args.words.now) c.in-Ok.command c.in-Ok.ensures reading) long
 
 pub read_command-requires : goal.read_command-requires
 read_command-requires g c = (c.in-Some.field-0, c.in-Some.ensures.meaning)
 
 pub run_command-requires : goal.run_command-requires
-run_command-requires g c = fits _ c.in-Ok.command c.in-Ok.ensures
+run_command-requires g c = fits (map string_bytes c.args.words.now) c.in-Ok.command c.in-Ok.ensures
 
 pub returns-in-None-clause-cut_off : goal.returns-in-None-clause-cut_off
-returns-in-None-clause-cut_off g c = usage_cut _ _ _ _ _ _ _ c.in-None.ensures.meaning c.finish.ensures.ends
+returns-in-None-clause-cut_off g c = usage_cut (map string_bytes c.args.words.now) _ _ _ _ _ _ c.in-None.ensures.meaning c.finish.ensures.ends
 
 pub returns-in-None-clause-exact : goal.returns-in-None-clause-exact
 returns-in-None-clause-exact g c = λ bytes o t left h.
-    comes _ bytes o _ t h (λ other. let w = usage_written _ (Some bytes) _ _ _ _ _ c.in-None.ensures.meaning c.finish.ensures.ends other in (w.0, w.1))
+    comes (map string_bytes c.args.words.now) bytes o _ t h (λ other. let w = usage_written (map string_bytes c.args.words.now) (Some bytes) _ _ _ _ _ c.in-None.ensures.meaning c.finish.ensures.ends other in (w.0, w.1))

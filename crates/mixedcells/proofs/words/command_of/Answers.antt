@@ -5,4 +5,4 @@ use Rattle.mixedcells.proofs.CommandLine.Words.{told}
 use Rattle.mixedcells.proofs.words.command_of.Goals as goal
 
 pub returns : goal.returns
-returns c = told (map string_bytes c.args.words.now) c.command_meant.result (c.command_meant.ensures ∙ ap (option_and_then built) c.meaning.ensures)
+returns c = record { meaning = told (map string_bytes c.args.words.now) c.command_meant.result (c.command_meant.ensures ∙ ap (option_and_then built) c.meaning.ensures) }

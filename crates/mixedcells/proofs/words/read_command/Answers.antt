@@ -12,7 +12,7 @@ unreachable-requires c =
     let same : c.command_meant.result ≡ command_for (map string_bytes c.args.words.now) = c.command_meant.ensures ∙ ap (option_and_then built) (c.meaning_in.ensures ∙ c.in-Ok.ensures) in
     none_meant (map string_bytes c.args.words.now) (sym same ∙ c.in-None.is) c.requires
 
-pub returns-in-Some : goal.returns-in-Some
-returns-in-Some c =
+pub returns : goal.returns
+returns c =
     let same : c.command_meant.result ≡ command_for (map string_bytes c.args.words.now) = c.command_meant.ensures ∙ ap (option_and_then built) (c.meaning_in.ensures ∙ c.in-Ok.ensures) in
     sym same ∙ c.in-Some.is
