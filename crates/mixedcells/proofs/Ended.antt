@@ -111,5 +111,5 @@ usage_written words left old new before now result none ends other =
 pub appends_as : (old new : Option (List ℕ)) (t u : List ℕ) → t ≡ u → Appends old new t → Appends old new u
 appends_as old new t u e h = subst (λ x. Appends old new x) e h
 
-pub reply_as : (command : Command) (xs ys : List ℕ) (o q : Outcome) (t u : List ℕ) → xs ≡ ys → o ≡ q → t ≡ u → IsReply command xs o t → IsReply command ys q u
-reply_as command xs ys o q t u e g f r = subst (λ x. IsReply command ys q x) f (subst (λ x. IsReply command ys x t) g (subst (λ b. IsReply command b o t) e r))
+pub reply_as : (command : Command) (xs ys : List ℕ) (o : Outcome) (t u : List ℕ) → xs ≡ ys → t ≡ u → IsReply command xs o t → IsReply command ys o u
+reply_as command xs ys o t u e f r = subst (λ x. IsReply command ys o x) f (subst (λ b. IsReply command b o t) e r)

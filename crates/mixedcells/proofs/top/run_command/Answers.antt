@@ -18,15 +18,13 @@ returns-in-Err-TooLong-clause-cut_off g c =
 pub returns-in-Ok-answer-clause-written : goal.returns-in-Ok-answer-clause-written
 returns-in-Ok-answer-clause-written g c =
     let t = c.in-Ok.ensures.taken in
-    let came : c.in-Ok-answer.field-0.outcome ≡ c.in-Ok-answer.outcome = search (rules, c.in-Ok-answer.outcome-is) in
     let same : c.in-Ok-answer.field-0.text.items ≡ c.deref-in-Ok-answer.result.now = search (rules, c.in-Ok-answer.text-is, c.deref-in-Ok-answer.ensures.value) in
-    let reply : IsReply c.args.command t.0 c.in-Ok-answer.outcome c.deref-in-Ok-answer.result.now = reply_as c.args.command _ _ _ _ _ _ (c.deref.ensures.value ∙ t.2.0) came same c.in-Ok-answer.ensures in
+    let reply : IsReply c.args.command t.0 c.in-Ok-answer.field-0.outcome c.deref-in-Ok-answer.result.now = reply_as c.args.command _ _ _ _ _ (c.deref.ensures.value ∙ t.2.0) same c.in-Ok-answer.ensures in
     reply_written c.args.command _ _ t.0 _ _ _ _ _ _ _ t.1 t.2.1 t.2.2 reply c.finish-in-Ok-answer.ensures.ends
 
 pub returns-in-Ok-answer-clause-cut_off : goal.returns-in-Ok-answer-clause-cut_off
 returns-in-Ok-answer-clause-cut_off g c =
     let t = c.in-Ok.ensures.taken in
-    let came : c.in-Ok-answer.field-0.outcome ≡ c.in-Ok-answer.outcome = search (rules, c.in-Ok-answer.outcome-is) in
     let same : c.in-Ok-answer.field-0.text.items ≡ c.deref-in-Ok-answer.result.now = search (rules, c.in-Ok-answer.text-is, c.deref-in-Ok-answer.ensures.value) in
-    let reply : IsReply c.args.command t.0 c.in-Ok-answer.outcome c.deref-in-Ok-answer.result.now = reply_as c.args.command _ _ _ _ _ _ (c.deref.ensures.value ∙ t.2.0) came same c.in-Ok-answer.ensures in
+    let reply : IsReply c.args.command t.0 c.in-Ok-answer.field-0.outcome c.deref-in-Ok-answer.result.now = reply_as c.args.command _ _ _ _ _ (c.deref.ensures.value ∙ t.2.0) same c.in-Ok-answer.ensures in
     reply_cut c.args.command _ _ t.0 _ _ _ _ _ _ _ t.1 t.2.1 t.2.2 reply c.finish-in-Ok-answer.ensures.ends
