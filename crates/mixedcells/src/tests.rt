@@ -418,7 +418,10 @@ fn one_scattered_point(rt: HostRuntime) -> Result<(), Fail> {
     for words in rows {
         let (status, written, left) = run_words(rt.alloc(), words)?;
         assert_eq!(rt; status, 0);
-        assert_eq!(rt; written.as_slice(), b"mixedcells 1\ndim 1\nsupport 1\n0 : 7100271\nend\n".as_slice());
+        assert_eq!(rt;
+            written.as_slice(),
+            b"mixedcells 1\ndim 1\nsupport 1\n0 : 7100271\nend\n".as_slice()
+        );
         assert_eq!(rt; left, 5);
     }
     Ok(())

@@ -10,12 +10,11 @@ mod numbers;
 mod pass;
 mod reading;
 
-pub use meaning::Family;
-
 use crate::words::command_line::parse;
 use crate::words::meaning::Meaning;
 use crate::words::pass::meaning;
 use crate::words::reading::meaning_in;
+pub use meaning::Family;
 use std::alloc::Global;
 use wide_int::OutOfMemory;
 

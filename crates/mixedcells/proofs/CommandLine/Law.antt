@@ -110,7 +110,6 @@ chosen : (w t : Text) (ws : List Text) (b : Bool) (o r : Option Meaning) (m : Me
 chosen w t ws false o r m s e f g = g e
 chosen w t ws true o r m s e f g = subst (λ u. IsRead (u ∷ ws) m) (sym (is_same w t s)) (f e)
 
-
 -- the law of all words but `make`'s, which it is given
 pub law_above : (w : Text) (ws : List Text) (m : Meaning) → (made ws ≡ Some m → IsRead (codes "make" ∷ ws) m)
     → meaning_of (w ∷ ws) ≡ Some m → IsRead (w ∷ ws) m

@@ -9,41 +9,41 @@ use Rattle.mixedcells.specs.Reading.{Read, read, read_searchers, read_make}
 
 pub plain_taken : takes top (codes "plain" ∷ []) ≡ true
 unfolding clap_on_literals
-plain_taken  = refl
+plain_taken = refl
 
 pub plain_read : read (subcommand_of top (codes "plain" ∷ [])) ≡ Some (read_searchers (codes "plain") None)
 unfolding clap_on_literals
-plain_read  = refl
+plain_read = refl
 
 pub check_taken : takes top (codes "check" ∷ []) ≡ true
 unfolding clap_on_literals
-check_taken  = refl
+check_taken = refl
 
 pub check_read : read (subcommand_of top (codes "check" ∷ [])) ≡ Some (read_searchers (codes "check") None)
 unfolding clap_on_literals
-check_read  = refl
+check_read = refl
 
 pub generic_taken : takes top (codes "generic" ∷ []) ≡ true
 unfolding clap_on_literals
-generic_taken  = refl
+generic_taken = refl
 
 pub generic_read : read (subcommand_of top (codes "generic" ∷ [])) ≡ Some (read_searchers (codes "generic") None)
 unfolding clap_on_literals
-generic_read  = refl
+generic_read = refl
 
 pub list_taken : takes top (codes "list" ∷ []) ≡ true
 unfolding clap_on_literals
-list_taken  = refl
+list_taken = refl
 
 pub list_read : read (subcommand_of top (codes "list" ∷ [])) ≡ Some (read_searchers (codes "list") None)
 unfolding clap_on_literals
-list_read  = refl
+list_read = refl
 
-pub list_joined_taken :  (v : Text) → takes top (codes "list" ∷ (codes "--searchers=" ++ v) ∷ []) ≡ true
+pub list_joined_taken : (v : Text) → takes top (codes "list" ∷ (codes "--searchers=" ++ v) ∷ []) ≡ true
 unfolding clap_on_literals
 list_joined_taken v = refl
 
-pub list_joined_read :  (v : Text) → read (subcommand_of top (codes "list" ∷ (codes "--searchers=" ++ v) ∷ [])) ≡ Some (read_searchers (codes "list") (Some v))
+pub list_joined_read : (v : Text) → read (subcommand_of top (codes "list" ∷ (codes "--searchers=" ++ v) ∷ [])) ≡ Some (read_searchers (codes "list") (Some v))
 unfolding clap_on_literals
 list_joined_read v = refl
 
@@ -57,17 +57,17 @@ list_two_read x xs hx = simp hx refl
 
 pub sum_taken : takes top (codes "sum" ∷ []) ≡ true
 unfolding clap_on_literals
-sum_taken  = refl
+sum_taken = refl
 
 pub sum_read : read (subcommand_of top (codes "sum" ∷ [])) ≡ Some (read_searchers (codes "sum") None)
 unfolding clap_on_literals
-sum_read  = refl
+sum_read = refl
 
-pub sum_joined_taken :  (v : Text) → takes top (codes "sum" ∷ (codes "--searchers=" ++ v) ∷ []) ≡ true
+pub sum_joined_taken : (v : Text) → takes top (codes "sum" ∷ (codes "--searchers=" ++ v) ∷ []) ≡ true
 unfolding clap_on_literals
 sum_joined_taken v = refl
 
-pub sum_joined_read :  (v : Text) → read (subcommand_of top (codes "sum" ∷ (codes "--searchers=" ++ v) ∷ [])) ≡ Some (read_searchers (codes "sum") (Some v))
+pub sum_joined_read : (v : Text) → read (subcommand_of top (codes "sum" ∷ (codes "--searchers=" ++ v) ∷ [])) ≡ Some (read_searchers (codes "sum") (Some v))
 unfolding clap_on_literals
 sum_joined_read v = refl
 

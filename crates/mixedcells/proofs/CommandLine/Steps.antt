@@ -35,35 +35,35 @@ seed_rule = unwrap_or (arg_by_long leaf.rules (codes "seed")) no_rule
 
 pub cyclic_first : (rows : List Row) → walked leaf.rules [] (at rows None idle 1) (codes "cyclic") ≡ at (settled_rows leaf.rules None rows) (Some (codes "family", (codes "cyclic") ∷ [])) idle 2
 unfolding clap_on_literals
-cyclic_first rows  = refl
+cyclic_first rows = refl
 
 pub cyclic_first_passes : (rows : List Row) → settles rows None ≡ true → turn_passes leaf [] (at rows None idle 1) (codes "cyclic") ≡ true
 unfolding clap_on_literals
-cyclic_first_passes rows  s = simp s refl
+cyclic_first_passes rows s = simp s refl
 
 pub cyclic_after_seed : (rows : List Row) (vs : List Text) → walked leaf.rules [] (at rows (Some (codes "seed", vs)) idle 1) (codes "cyclic") ≡ at (settled_rows leaf.rules (Some (codes "seed", vs)) rows) (Some (codes "family", (codes "cyclic") ∷ [])) idle 2
 unfolding clap_on_literals
-cyclic_after_seed rows vs  = refl
+cyclic_after_seed rows vs = refl
 
 pub cyclic_after_seed_passes : (rows : List Row) (vs : List Text) → settles rows (Some (codes "seed", vs)) ≡ true → turn_passes leaf [] (at rows (Some (codes "seed", vs)) idle 1) (codes "cyclic") ≡ true
 unfolding clap_on_literals
-cyclic_after_seed_passes rows vs  s = simp s refl
+cyclic_after_seed_passes rows vs s = simp s refl
 
 pub scatter_first : (rows : List Row) → walked leaf.rules [] (at rows None idle 1) (codes "scatter") ≡ at (settled_rows leaf.rules None rows) (Some (codes "family", (codes "scatter") ∷ [])) idle 2
 unfolding clap_on_literals
-scatter_first rows  = refl
+scatter_first rows = refl
 
 pub scatter_first_passes : (rows : List Row) → settles rows None ≡ true → turn_passes leaf [] (at rows None idle 1) (codes "scatter") ≡ true
 unfolding clap_on_literals
-scatter_first_passes rows  s = simp s refl
+scatter_first_passes rows s = simp s refl
 
 pub scatter_after_seed : (rows : List Row) (vs : List Text) → walked leaf.rules [] (at rows (Some (codes "seed", vs)) idle 1) (codes "scatter") ≡ at (settled_rows leaf.rules (Some (codes "seed", vs)) rows) (Some (codes "family", (codes "scatter") ∷ [])) idle 2
 unfolding clap_on_literals
-scatter_after_seed rows vs  = refl
+scatter_after_seed rows vs = refl
 
 pub scatter_after_seed_passes : (rows : List Row) (vs : List Text) → settles rows (Some (codes "seed", vs)) ≡ true → turn_passes leaf [] (at rows (Some (codes "seed", vs)) idle 1) (codes "scatter") ≡ true
 unfolding clap_on_literals
-scatter_after_seed_passes rows vs  s = simp s refl
+scatter_after_seed_passes rows vs s = simp s refl
 
 pub n_word : (rows : List Row) (vs : List Text) (b : ℕ) (bs : Text) → (b == 45) ≡ false → walked leaf.rules [] (at rows (Some (codes "family", vs)) idle 2) (b ∷ bs) ≡ at (settled_rows leaf.rules (Some (codes "family", vs)) rows) (Some (codes "n", (b ∷ bs) ∷ [])) idle 3
 unfolding clap_on_literals

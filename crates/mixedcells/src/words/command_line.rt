@@ -53,7 +53,9 @@ fn making_line<'a>(alloc: Global) -> Result<Command<'a>, AllocError>
     ensures app { IfOk result (λ c. app_of c ≡ spec.making_line) }
 {
     let make = make_command(alloc)?;
-    Command::new(alloc, "mixedcells").no_binary_name(true).subcommand(make)
+    Command::new(alloc, "mixedcells")
+        .no_binary_name(true)
+        .subcommand(make)
 }
 
 // The same and the commands that have no further word.

@@ -30,11 +30,7 @@ pub fn meaning(words: &[String]) -> Option<Meaning>
 fn alone(meaning: Meaning, rest: &[String]) -> Option<Meaning>
     ensures { result ≡ spec.alone meaning (map string_bytes rest.now) }
 {
-    if rest.is_empty() {
-        Some(meaning)
-    } else {
-        None
-    }
+    if rest.is_empty() { Some(meaning) } else { None }
 }
 
 // How many searchers the words after `list` or `sum` ask for.

@@ -89,7 +89,12 @@ fn seed_read(value: Option<&str>) -> Option<u64>
 }
 
 // The family that the values name.
-fn family_read(family: Option<&str>, n: Option<&str>, m: Option<&str>, side: Option<&str>) -> Option<Family>
+fn family_read(
+    family: Option<&str>,
+    n: Option<&str>,
+    m: Option<&str>,
+    side: Option<&str>,
+) -> Option<Family>
     ensures { result ≡ spec.family_read (option_map (λ s. s.now) family.entry) (option_map (λ s. s.now) n.entry) (option_map (λ s. s.now) m.entry) (option_map (λ s. s.now) side.entry) }
 {
     let family = family?;
