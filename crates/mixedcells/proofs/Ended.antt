@@ -1,22 +1,56 @@
 -- What follows from how a run ended.
-use Rattle.std.proofs.Common.{◌≡◌, ◌∙◌, ℕ, ◌+◌, ◌≤◌, List, length, take, Option, Some, None, codes, refl, sym, ap, subst, arith, inl, inr, ⊎_elim, length-append}
-use Rattle.std.specs.Io.KnownBytes.{Appends, Consumes}
+use Rattle.std.proofs.Common.{◌≡◌, ◌∙◌, ℕ, ◌+◌, ◌≤◌, ◌++◌, IsTrue, false, append-nil, List, length, take, Option, Some, None, codes, refl, sym, ap, subst, arith, inl, inr, ⊎_elim, length-append}
+use Rattle.std.specs.Io.KnownBytes.{Appends, Consumes, IsAtEnd}
 use Rattle.edge_io.specs.Faults.{Rose}
-use Rattle.mixedcells.specs.Words.{HasMeaning}
+use Rattle.mixedcells.specs.Words.{HasMeaning, reads}
 use Rattle.mixedcells.specs.Outcomes.{status_of}
+use Rattle.mixedcells.specs.Answers.{IsReply, IsPlainReply, IsCheckReply}
 use Rattle.mixedcells.specs.Runs.{IsAnswer, IsInput, IsCalledFor, IsFree, IsCutOff, Finishes}
 use Rattle.mixedcells.specs.declared.words.Command.{Command}
+use Rattle.mixedcells.specs.declared.words.Command.TheVariants as verb
 use Rattle.mixedcells.specs.declared.outcome.Outcome.{Outcome}
 use Rattle.mixedcells.specs.declared.outcome.Outcome.TheVariants.{TooLong, Usage, WriteFault}
 
+never : {P : Type 0} → IsTrue false → P
+never h = cc
+
 -- where more bytes than the limit were taken the input is too long
-pub too_long : (command : Command) (left rest : Option (List ℕ)) (taken : List ℕ) → Consumes left rest taken → length taken ≡ 16777217
+pub too_long : (command : Command) (left rest : Option (List ℕ)) (taken : List ℕ) → IsTrue (reads command) → Consumes left rest taken → length taken ≡ 16777217
     → (bytes : List ℕ) × IsInput left bytes × IsAnswer command bytes TooLong (codes "too long\n")
-too_long command None rest taken c e = (taken, tt, inl (omega arith, refl, refl))
-too_long command (Some xs) None taken c e = absurd c
-too_long command (Some xs) (Some ys) taken c e =
+too_long command None rest taken r c e = (taken, tt, inl ((r, omega (arith, e)), refl, refl))
+too_long command (Some xs) None taken r c e = absurd c
+too_long command (Some xs) (Some ys) taken r c e =
     let l : length xs ≡ length taken + length ys = ap length c ∙ length-append taken ys in
-    (xs, refl, inl (omega (arith, l, e), refl, refl))
+    (xs, refl, inl ((r, omega (arith, l, e)), refl, refl))
+
+-- where the whole input was taken a reply to it is an answer
+whole_answer : (command : Command) (left rest : Option (List ℕ)) (taken : List ℕ) (o : Outcome) (t : List ℕ) → Consumes left rest taken → length taken ≤ 16777216 → IsAtEnd rest
+    → IsReply command taken o t → (bytes : List ℕ) × IsInput left bytes × IsAnswer command bytes o t
+whole_answer command None rest taken o t c l e r = (taken, tt, inr (λ x. l, r))
+whole_answer command (Some xs) None taken o t c l e r = absurd c
+whole_answer command (Some xs) (Some ys) taken o t c l e r = (taken, c ∙ ap (λ q. taken ++ q) e ∙ append-nil taken, inr (λ x. l, r))
+
+-- a reply to what was taken is an answer: all of the input, or what a command that doesn't read it takes
+pub replied : (command : Command) (left rest : Option (List ℕ)) (taken : List ℕ) (o : Outcome) (t : List ℕ) → Consumes left rest taken → length taken ≤ 16777216
+    → (IsTrue (reads command) → IsAtEnd rest) → IsReply command taken o t → (bytes : List ℕ) × IsInput left bytes × IsAnswer command bytes o t
+replied verb.Plain left rest taken o t c l e r = whole_answer verb.Plain left rest taken o t c l (e refl) r
+replied verb.Check left rest taken o t c l e r = whole_answer verb.Check left rest taken o t c l (e refl) r
+replied (verb.Make family seed) None rest taken o t c l e r = (taken, tt, inr (λ x. l, r))
+replied (verb.Make family seed) (Some xs) rest taken o t c l e r = (xs, refl, inr (λ x. never x, r))
+
+plain_not_fault : (bytes t : List ℕ) → IsPlainReply bytes WriteFault t → ⊥
+plain_not_fault bytes t (inl h) = h.2
+plain_not_fault bytes t (inr h) = let e = ap status_of h.2.0 in omega (arith, e)
+
+check_not_fault : (bytes t : List ℕ) → IsCheckReply bytes WriteFault t → ⊥
+check_not_fault bytes t (inl h) = h.2
+check_not_fault bytes t (inr h) = let e = ap status_of h.2.0 in omega (arith, e)
+
+-- no command replies that the sink failed
+pub not_fault : (command : Command) (bytes : List ℕ) (o : Outcome) (t : List ℕ) → IsReply command bytes o t → o ≡ WriteFault → ⊥
+not_fault verb.Plain bytes o t r e = plain_not_fault bytes t (subst (λ q. IsPlainReply bytes q t) e r)
+not_fault verb.Check bytes o t r e = check_not_fault bytes t (subst (λ q. IsCheckReply bytes q t) e r)
+not_fault (verb.Make family seed) bytes o t r e = let f = ap status_of (sym e ∙ r.0) in omega (arith, f)
 
 module _ (old new : Option (List ℕ)) (before now : ℕ) (text : List ℕ) (outcome result : Outcome) where
   pub finished : Finishes old new before now text outcome result → ¬ (IsFree result) → (result ≡ outcome) × Appends old new text
@@ -26,21 +60,41 @@ module _ (old new : Option (List ℕ)) (before now : ℕ) (text : List ℕ) (out
       → Rose before now × ((n : ℕ) × (n ≤ length text) × Appends old new (take n text))
   cut ends other fault = ⊎_elim (λ h. absurd (other (ap status_of (sym h.0 ∙ fault)))) (λ h. (h.1, h.2)) ends
 
+  pub cut_reply : Finishes old new before now text outcome result → (outcome ≡ WriteFault → ⊥) → result ≡ WriteFault
+      → Rose before now × ((n : ℕ) × (n ≤ length text) × Appends old new (take n text))
+  cut_reply ends other fault = ⊎_elim (λ h. absurd (other (sym h.0 ∙ fault))) (λ h. (h.1, h.2)) ends
+
 pub long_written : (command : Command) (left rest : Option (List ℕ)) (taken : List ℕ) (old new : Option (List ℕ)) (before now : ℕ) (result : Outcome)
-    → Consumes left rest taken → length taken ≡ 16777217 → Finishes old new before now (codes "too long\n") TooLong result → ¬ (IsFree result)
+    → IsTrue (reads command) → Consumes left rest taken → length taken ≡ 16777217 → Finishes old new before now (codes "too long\n") TooLong result → ¬ (IsFree result)
     → (bytes : List ℕ) × (text : List ℕ) × IsInput left bytes × IsAnswer command bytes result text × Appends old new text
-long_written command left rest taken old new before now result c e ends other =
+long_written command left rest taken old new before now result r c e ends other =
     let f = finished old new before now (codes "too long\n") TooLong result ends other in
-    let l = too_long command left rest taken c e in
+    let l = too_long command left rest taken r c e in
     (l.0, codes "too long\n", l.1, subst (λ o. IsAnswer command l.0 o (codes "too long\n")) (sym f.0) l.2, f.1)
 
 pub long_cut : (command : Command) (left rest : Option (List ℕ)) (taken : List ℕ) (old new : Option (List ℕ)) (before now : ℕ) (result : Outcome)
-    → Consumes left rest taken → length taken ≡ 16777217 → Finishes old new before now (codes "too long\n") TooLong result → result ≡ WriteFault
+    → IsTrue (reads command) → Consumes left rest taken → length taken ≡ 16777217 → Finishes old new before now (codes "too long\n") TooLong result → result ≡ WriteFault
     → (bytes : List ℕ) × IsInput left bytes × IsCutOff (IsAnswer command bytes) old new before now
-long_cut command left rest taken old new before now result c e ends fault =
+long_cut command left rest taken old new before now result r c e ends fault =
     let f = cut old new before now (codes "too long\n") TooLong result ends (λ d. omega (arith, d)) fault in
-    let l = too_long command left rest taken c e in
+    let l = too_long command left rest taken r c e in
     (l.0, l.1, (f.0, (TooLong, codes "too long\n", l.2, f.1)))
+
+pub reply_written : (command : Command) (left rest : Option (List ℕ)) (taken : List ℕ) (old new : Option (List ℕ)) (before now : ℕ) (text : List ℕ) (outcome result : Outcome)
+    → Consumes left rest taken → length taken ≤ 16777216 → (IsTrue (reads command) → IsAtEnd rest) → IsReply command taken outcome text → Finishes old new before now text outcome result → ¬ (IsFree result)
+    → (bytes : List ℕ) × (t : List ℕ) × IsInput left bytes × IsAnswer command bytes result t × Appends old new t
+reply_written command left rest taken old new before now text outcome result c l e r ends other =
+    let f = finished old new before now text outcome result ends other in
+    let a = replied command left rest taken outcome text c l e r in
+    (a.0, text, a.1, subst (λ o. IsAnswer command a.0 o text) (sym f.0) a.2, f.1)
+
+pub reply_cut : (command : Command) (left rest : Option (List ℕ)) (taken : List ℕ) (old new : Option (List ℕ)) (before now : ℕ) (text : List ℕ) (outcome result : Outcome)
+    → Consumes left rest taken → length taken ≤ 16777216 → (IsTrue (reads command) → IsAtEnd rest) → IsReply command taken outcome text → Finishes old new before now text outcome result → result ≡ WriteFault
+    → (bytes : List ℕ) × IsInput left bytes × IsCutOff (IsAnswer command bytes) old new before now
+reply_cut command left rest taken old new before now text outcome result c l e r ends fault =
+    let f = cut_reply old new before now text outcome result ends (not_fault command taken outcome text r) fault in
+    let a = replied command left rest taken outcome text c l e r in
+    (a.0, a.1, (f.0, (outcome, text, a.2, f.1)))
 
 pub usage_cut : (words : List (List ℕ)) (left old new : Option (List ℕ)) (before now : ℕ) (result : Outcome) → ¬ (HasMeaning words)
     → Finishes old new before now (codes "usage\n") Usage result → result ≡ WriteFault → IsCutOff (IsCalledFor words left) old new before now
@@ -53,3 +107,9 @@ pub usage_written : (words : List (List ℕ)) (left old new : Option (List ℕ))
 usage_written words left old new before now result none ends other =
     let f = finished old new before now (codes "usage\n") Usage result ends other in
     (codes "usage\n", inl (none, f.0, refl), f.1)
+
+pub appends_as : (old new : Option (List ℕ)) (t u : List ℕ) → t ≡ u → Appends old new t → Appends old new u
+appends_as old new t u e h = subst (λ x. Appends old new x) e h
+
+pub reply_as : (command : Command) (xs ys : List ℕ) (o : Outcome) (t u : List ℕ) → xs ≡ ys → t ≡ u → IsReply command xs o t → IsReply command ys o u
+reply_as command xs ys o t u e f r = subst (λ x. IsReply command ys o x) f (subst (λ b. IsReply command b o t) e r)

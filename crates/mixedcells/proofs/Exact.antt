@@ -1,5 +1,5 @@
 -- What the words and the input call for is one outcome.
-use Rattle.std.proofs.Common.{◌≡◌, ◌⊎◌, ℕ, ◌<◌, ◌≤◌, ◌∙◌, List, [], ◌∷◌, length, Option, Some, Ok, take, refl, sym, ap, subst, arith, inl, inr}
+use Rattle.std.proofs.Common.{◌≡◌, ◌⊎◌, ℕ, ◌<◌, ◌≤◌, ◌∙◌, List, [], ◌∷◌, length, Option, Some, Ok, IsTrue, false, take, refl, sym, ap, subst, arith, inl, inr}
 use native.Mathlib.Decide.{ℕ_discrete, dec_lt}
 use Rattle.cayley.specs.Problems.{Problem}
 use Rattle.cayley.specs.Cells.{Cell}
@@ -10,14 +10,16 @@ use Rattle.support_text.specs.ProblemText.{problem_of}
 use Rattle.listing_text.specs.Listings.{IsListingOf}
 use Rattle.plain_lister.specs.Choices.{IsExcess, HasTooMany, product, pair_counts}
 use Rattle.plain_lister.specs.Lists.{IsFirstUnfit, AllFit}
+use Rattle.mixedcells.specs.declared.words.meaning.Family.{Family}
 use Rattle.mixedcells.specs.declared.words.Command.{Command}
 use Rattle.mixedcells.specs.declared.words.Command.TheVariants as verb
 use Rattle.mixedcells.specs.declared.outcome.Outcome.{Outcome}
 use Rattle.mixedcells.specs.declared.outcome.Outcome.TheVariants as variant
 use Rattle.mixedcells.specs.Words.{Means}
 use Rattle.mixedcells.specs.Outcomes.{status_of}
-use Rattle.mixedcells.specs.Answers.{limit, IsListReply, IsPlainReply, IsReply}
+use Rattle.mixedcells.specs.Answers.{limit, IsListReply, IsPlainReply, IsMadeReply, IsReply}
 use Rattle.mixedcells.specs.Runs.{IsAnswer, IsCalledFor, IsFree}
+use Rattle.mixedcells.proofs.CommandLine.Words.{one_meaning}
 use Rattle.mixedcells.proofs.Readings.{ok_once, err_once, not_both}
 use Rattle.mixedcells.proofs.Checks.{one_check_reply}
 
@@ -90,23 +92,13 @@ one_plain_reply bytes o q t u (inr h) (inr k) =
 one_reply : (command : Command) (bytes : List ℕ) (o q : Outcome) (t u : List ℕ) → IsReply command bytes o t → IsReply command bytes q u → o ≡ q
 one_reply verb.Plain bytes o q t u h k = one_plain_reply bytes o q t u h k
 one_reply verb.Check bytes o q t u h k = one_check_reply bytes o q t u h k
+one_reply (verb.Make family seed) bytes o q t u h k = h.0 ∙ sym k.0
 
 one_answer : (command : Command) (bytes : List ℕ) (o q : Outcome) (t u : List ℕ) → IsAnswer command bytes o t → IsAnswer command bytes q u → o ≡ q
 one_answer command bytes o q t u (inl h) (inl k) = h.1 ∙ sym k.1
-one_answer command bytes o q t u (inl h) (inr k) = absurd (let a = h.0 in let b = k.0 in omega (arith, a, b))
-one_answer command bytes o q t u (inr h) (inl k) = absurd (let a = h.0 in let b = k.0 in omega (arith, a, b))
+one_answer command bytes o q t u (inl h) (inr k) = absurd (let a = h.0.1 in let b = k.0 h.0.0 in omega (arith, a, b))
+one_answer command bytes o q t u (inr h) (inl k) = absurd (let a = k.0.1 in let b = h.0 k.0.0 in omega (arith, a, b))
 one_answer command bytes o q t u (inr h) (inr k) = one_reply command bytes o q t u h.1 k.1
-
-abbrev first_byte : List (List ℕ) → ℕ
-first_byte [] = 0
-first_byte ([] ∷ words) = 0
-first_byte ((b ∷ bytes) ∷ words) = b
-
-one_meaning : (words : List (List ℕ)) (c d : Command) → Means words c → Means words d → c ≡ d
-one_meaning words verb.Plain verb.Plain h k = refl
-one_meaning words verb.Plain verb.Check h k = absurd (let e = ap first_byte (sym h ∙ k) in omega (arith, e))
-one_meaning words verb.Check verb.Plain h k = absurd (let e = ap first_byte (sym h ∙ k) in omega (arith, e))
-one_meaning words verb.Check verb.Check h k = refl
 
 -- what is called for is an answer of the command that the words mean
 pub answer_of : (words : List (List ℕ)) (bytes : List ℕ) (command : Command) (o : Outcome) (t : List ℕ) → Means words command → IsCalledFor words (Some bytes) o t → IsAnswer command bytes o t
@@ -116,7 +108,7 @@ answer_of words bytes command o t means (inr h) =
 
 -- an answer on bytes that aren't too many is a reply
 pub reply_of : (command : Command) (bytes : List ℕ) (o : Outcome) (t : List ℕ) → length bytes ≤ limit → IsAnswer command bytes o t → IsReply command bytes o t
-reply_of command bytes o t short (inl l) = absurd (let a = l.0 in omega (arith, a, short))
+reply_of command bytes o t short (inl l) = absurd (let a = l.0.1 in omega (arith, a, short))
 reply_of command bytes o t short (inr r) = r.1
 
 -- an answer other than too long is a reply
@@ -210,3 +202,21 @@ known words left bytes o t e h = subst (λ l. IsCalledFor words l o t) e h
 pub ended_listed : (words : List (List ℕ)) (left : Option (List ℕ)) (bytes : List ℕ) (o : Outcome) (t : List ℕ) → left ≡ Some bytes → Means words verb.Plain → o ≡ variant.Ok → IsCalledFor words left o t
     → (file : File) × (problem_of bytes ≡ Ok file) × IsListingOf file t
 ended_listed words left bytes o t e means ok h = listed words bytes t means (subst (λ q. IsCalledFor words (Some bytes) q t) ok (known words left bytes o t e h))
+
+made_answer : (family : Family) (seed : ℕ) (bytes : List ℕ) (o : Outcome) (t : List ℕ) → IsAnswer (verb.Make family seed) bytes o t → IsMadeReply family seed o t
+made_answer family seed bytes o t (inl l) = let f : IsTrue false = l.0.0 in cc
+made_answer family seed bytes o t (inr r) = r.1
+
+-- what `make` is asked for is its file
+pub called_made : (words : List (List ℕ)) (left : Option (List ℕ)) (family : Family) (seed : ℕ) (o : Outcome) (t : List ℕ) → Means words (verb.Make family seed) → IsCalledFor words left o t → IsMadeReply family seed o t
+called_made words left family seed o t means (inl h) = absurd (h.0 (verb.Make family seed, means))
+called_made words left family seed o t means (inr h) =
+    made_answer family seed h.1 o t (subst (λ c. IsAnswer c h.1 o t) (one_meaning words h.0 (verb.Make family seed) h.2 means) h.4)
+
+-- `make` ends well, unless a free answer comes
+pub makes : (words : List (List ℕ)) (left : Option (List ℕ)) (family : Family) (seed : ℕ) (result : Outcome) → Means words (verb.Make family seed)
+    → (¬ (IsFree result) → (u : List ℕ) × IsCalledFor words left result u) → (result ≡ variant.Ok) ⊎ IsFree result
+makes words left family seed result means f = elim (free_or result) [
+  | inl free ↦ inr free
+  | inr other ↦ let k = f other in inl (called_made words left family seed result k.0 means k.1).0
+]

@@ -32,7 +32,7 @@ module _ (words : List (List ℕ)) (bytes : List ℕ) (means : Means words verb.
   ]
 
   spared_if : IsWrittenListing bytes → (o : Outcome) (t : List ℕ) → IsAnswer verb.Check bytes o t → IsSpared bytes o
-  spared_if w o t (inl l) = inr (inr (l.0, l.1))
+  spared_if w o t (inl l) = inr (inr (l.0.1, l.1))
   spared_if w o t (inr r) = spared bytes w o t r.1
 
   -- a listing as a lister wrote it is spared, unless a free answer comes

@@ -1,3 +1,4 @@
+pub mod CommandLine
 pub mod Ended
 pub mod Readings
 pub mod Checks

@@ -3,16 +3,19 @@ use Rattle.std.specs.Prelude.{◌≡◌, ◌⊎◌, ℕ, List, Ok, Err}
 use Rattle.cayley.specs.Files.{File, plain_problem}
 use Rattle.support_text.specs.declared.fault.FormatFault.{FormatFault}
 use Rattle.support_text.specs.ProblemText.{problem_of}
+use Rattle.support_text.specs.Writing.{problem_text}
 use Rattle.listing_text.specs.declared.listing.Listing.{Listing}
 use Rattle.listing_text.specs.ListingText.{listing_of}
 use Rattle.listing_text.specs.Listings.{IsListingOf}
 use Rattle.cell_certificate.specs.Answers.{IsRight, IsWrong, IsTooLarge}
 use Rattle.plain_lister.specs.Choices.{HasTooMany, IsExcess}
 use Rattle.plain_lister.specs.Lists.{AllFit, IsFirstUnfit}
+use Rattle.mixedcells.specs.declared.words.meaning.Family.{Family}
 use Rattle.mixedcells.specs.declared.words.Command.{Command}
 use Rattle.mixedcells.specs.declared.words.Command.TheVariants as verb
 use Rattle.mixedcells.specs.declared.outcome.Outcome.{Outcome}
 use Rattle.mixedcells.specs.declared.outcome.Outcome.TheVariants as variant
+use Rattle.mixedcells.specs.Families.{family_file}
 use Rattle.mixedcells.specs.Outcomes.{yes_line, format_line, no_line, overflow_line, too_many_line, overflow_cell}
 
 -- the longest input that is read
@@ -67,7 +70,12 @@ IsCheckReply bytes outcome text =
     ((listing : Listing) × IsListingText bytes listing × IsVerdictReply listing outcome text)
     ⊎ ((fault : FormatFault) × (listing_of bytes ≡ Err fault) × TellsFault fault outcome text)
 
--- what a command replies on the bytes of its input
+-- what `make` replies: the canonical text of the family's file
+abbrev pub IsMadeReply : Family → ℕ → Outcome → List ℕ → Type 0
+IsMadeReply family seed outcome text = (outcome ≡ variant.Ok) × (text ≡ problem_text (family_file family seed))
+
+-- what a command replies on the bytes of its input; `make` replies the same on all
 abbrev pub IsReply : Command → List ℕ → Outcome → List ℕ → Type 0
 IsReply verb.Plain bytes outcome text = IsPlainReply bytes outcome text
 IsReply verb.Check bytes outcome text = IsCheckReply bytes outcome text
+IsReply (verb.Make family seed) bytes outcome text = IsMadeReply family seed outcome text

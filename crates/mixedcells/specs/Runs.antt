@@ -1,5 +1,5 @@
 -- How a run ends, and what stands in the source and the sink then.
-use Rattle.std.specs.Prelude.{◌≡◌, ◌⊎◌, ◌+◌, ◌<◌, ◌≤◌, ℕ, List, length, take, Option, Some, None, Ok}
+use Rattle.std.specs.Prelude.{◌≡◌, ◌⊎◌, ◌+◌, ◌<◌, ◌≤◌, ℕ, List, length, take, Option, Some, None, Ok, IsTrue}
 use Rattle.std.specs.Io.KnownBytes.{Appends, Consumes}
 use Rattle.edge_io.specs.Faults.{Rose}
 use Rattle.cayley.specs.Files.{File, plain_problem}
@@ -13,15 +13,19 @@ use Rattle.plain_lister.specs.Lists.{AllFit}
 use Rattle.mixedcells.specs.declared.words.Command.{Command}
 use Rattle.mixedcells.specs.declared.outcome.Outcome.{Outcome}
 use Rattle.mixedcells.specs.declared.outcome.Outcome.TheVariants as variant
-use Rattle.mixedcells.specs.Words.{Means, HasMeaning}
+use Rattle.mixedcells.specs.Words.{Means, HasMeaning, reads}
 use Rattle.mixedcells.specs.Outcomes.{line_of}
 use Rattle.mixedcells.specs.Answers.{limit, IsListingText, IsReply}
+
+-- the input is longer than a command reads
+abbrev pub IsTooLong : Command → List ℕ → Type 0
+IsTooLong command bytes = IsTrue (reads command) × (limit < length bytes)
 
 -- what a command answers on its whole input, and what it writes for that: the input is too long, or the command replies
 abbrev pub IsAnswer : Command → List ℕ → Outcome → List ℕ → Type 0
 IsAnswer command bytes outcome text =
-    ((limit < length bytes) × (outcome ≡ variant.TooLong) × (text ≡ line_of variant.TooLong))
-    ⊎ ((length bytes ≤ limit) × IsReply command bytes outcome text)
+    (IsTooLong command bytes × (outcome ≡ variant.TooLong) × (text ≡ line_of variant.TooLong))
+    ⊎ ((IsTrue (reads command) → length bytes ≤ limit) × IsReply command bytes outcome text)
 
 -- the bytes are those that a source has left, where it tells them
 abbrev pub IsInput : Option (List ℕ) → List ℕ → Type 0

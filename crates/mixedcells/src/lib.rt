@@ -9,7 +9,7 @@ mod words;
 
 pub use outcome::Outcome;
 pub use top::run_alone;
-pub use words::Command;
+pub use words::{Command, Family};
 
 #[cfg(test)]
 mod tests;

@@ -1,17 +1,20 @@
 // What each command replies on the bytes of its input.
 ghost use Rattle.std.specs.Prelude.{◌≡◌, IfOk};
 ghost use Rattle.cell_certificate.specs.Written.{AreListed};
-ghost use Rattle.mixedcells.specs.Answers.{IsReply, IsPlainReply, IsListReply, IsCheckReply, IsVerdictReply, TellsFault};
+ghost use Rattle.mixedcells.specs.Answers.{IsReply, IsPlainReply, IsListReply, IsCheckReply, IsMadeReply, IsVerdictReply, TellsFault};
+ghost use Rattle.mixedcells.specs.Families as families;
+ghost use Rattle.mixedcells.specs.Families.{IsFit, IsInLimits};
 
 use crate::lines::{format_line, no_line, overflow_cell, overflow_line, too_many_line, yes_line};
 use crate::outcome::Outcome;
-use crate::words::Command;
+use crate::words::{Command, Family};
 use cayley::{LiftFile, Problem};
 use cell_certificate::{CheckFault, Verdict};
+use family_gen::{cyclic, scatter};
 use listing_text::{Listing, read_listing, write_listing};
 use plain_lister::{PlainFault, plain_list};
 use std::alloc::Global;
-use support_text::{FormatFault, TextFault, read_problem};
+use support_text::{FormatFault, TextFault, read_problem, write_problem};
 use wide_int::OutOfMemory;
 
 /// An outcome and the text that is written for it.
@@ -23,11 +26,13 @@ pub struct Reply {
 
 /// What a command replies on the bytes of its whole input, which are at most 16,777,216.
 pub fn answer(alloc: Global, command: Command, bytes: &[u8]) -> Result<Reply, OutOfMemory>
+    requires { IsFit command }
     ensures { IfOk result (λ r. IsReply command bytes.now r.outcome r.text.items) }
 {
     match command {
         Command::Plain => plain(alloc, bytes),
         Command::Check => check(alloc, bytes),
+        Command::Make(family, seed) => made(alloc, family, seed),
     }
 }
 
@@ -126,5 +131,30 @@ fn verdict(alloc: Global, listing: &Listing) -> Result<Reply, OutOfMemory>
             })
         }
         Err(CheckFault::OutOfMemory) => Err(OutOfMemory),
+    }
+}
+
+// What `make` replies.
+fn made(alloc: Global, family: Family, seed: u64) -> Result<Reply, OutOfMemory>
+    requires { IsInLimits family }
+    ensures { IfOk result (λ r. IsMadeReply family seed r.outcome r.text.items) }
+{
+    let file = family_file(alloc, family, seed)?;
+    let mut text = Vec::new(alloc);
+    write_problem(&file, &mut text)?;
+    Ok(Reply {
+        outcome: Outcome::Ok,
+        text,
+    })
+}
+
+// The file of a family.
+fn family_file(alloc: Global, family: Family, seed: u64) -> Result<LiftFile, OutOfMemory>
+    requires { IsInLimits family }
+    ensures { IfOk result (λ file. file ≡ families.family_file family seed) }
+{
+    match family {
+        Family::Cyclic(n) => cyclic(alloc, n as usize, seed),
+        Family::Scatter(n, m, side) => scatter(alloc, n as usize, m as usize, side, seed),
     }
 }

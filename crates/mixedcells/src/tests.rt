@@ -326,3 +326,132 @@ fn check_takes_no_further_word(rt: HostRuntime) -> Result<(), Fail> {
     assert_eq!(rt; sink.bytes(), b"usage\n".as_slice());
     Ok(())
 }
+
+// The status of a run of these words, what it wrote, and how many bytes of five it left in the source.
+fn run_words(alloc: Global, texts: &[&str]) -> Result<(u8, Vec<u8>, usize), Fail> {
+    let mut words = Vec::new(alloc);
+    for text in texts {
+        words.push(String::from_str(alloc, text)?)?;
+    }
+    let mut source = SteadySource::new(b"dim 1".to_vec(alloc)?);
+    let Ok(mut sink) = MemorySink::new(alloc, 65_536, 65_536, Vec::new(alloc)) else {
+        return Err(Fail::from("out of memory"));
+    };
+    let outcome = run_alone(alloc, &words, &mut source, &mut sink);
+    let written = sink.bytes().to_vec(alloc)?;
+    let left = read_all(alloc, &mut source)?;
+    Ok((outcome.status(), written, left.len()))
+}
+
+#[test]
+fn words_that_mean_nothing(rt: HostRuntime) -> Result<(), Fail> {
+    let rows: [&[&str]; 32] = [
+        &[],
+        &["list", "--searchers", "0"],
+        &["list", "--searchers", "65"],
+        &["list", "extra"],
+        &["make", "scatter", "1", "3", "1"],
+        &["help"],
+        &["-h"],
+        &["--help"],
+        &["--version"],
+        &["--"],
+        &["--", "plain"],
+        &["plain", "--"],
+        &["plai"],
+        &["Plain"],
+        &["check", "extra"],
+        &["make"],
+        &["make", "cyclic"],
+        &["make", "cyclic", "1"],
+        &["make", "cyclic", "17"],
+        &["make", "cyclic", "+5"],
+        &["make", "cyclic", "000000000000000000005"],
+        &["make", "cyclic", "5", "6"],
+        &["make", "--", "cyclic", "5"],
+        &["make", "cyclic", "5", "--"],
+        &["make", "cyclic", "5", "--see", "1"],
+        &["make", "cyclic", "5", "-s", "1"],
+        &["make", "cyclic", "5", "--seed"],
+        &["make", "cyclic", "5", "--seed", "-1"],
+        &["make", "cyclic", "5", "--seed="],
+        &["make", "cyclic", "5", "--seed", "18446744073709551616"],
+        &["make", "--seed", "1", "cyclic", "5", "--seed", "1"],
+        &["make", "scatter", "2", "5", "1"],
+    ];
+    for words in rows {
+        let (status, written, left) = run_words(rt.alloc(), words)?;
+        assert_eq!(rt; status, 2);
+        assert_eq!(rt; written.as_slice(), b"usage\n".as_slice());
+        assert_eq!(rt; left, 5);
+    }
+    Ok(())
+}
+
+#[test]
+fn make_takes_its_option_anywhere(rt: HostRuntime) -> Result<(), Fail> {
+    let (_, want, _) = run_words(rt.alloc(), &["make", "cyclic", "5", "--seed", "7"])?;
+    let rows: [&[&str]; 7] = [
+        &["make", "cyclic", "5", "--seed=7"],
+        &["make", "cyclic", "--seed", "7", "5"],
+        &["make", "cyclic", "--seed=7", "5"],
+        &["make", "--seed", "7", "cyclic", "5"],
+        &["make", "--seed=7", "cyclic", "5"],
+        &["make", "cyclic", "005", "--seed=00000000000000000007"],
+        &["make", "--seed", "07", "cyclic", "00000000000000000005"],
+    ];
+    for words in rows {
+        let (status, written, left) = run_words(rt.alloc(), words)?;
+        assert_eq!(rt; status, 0);
+        assert_eq!(rt; written.as_slice(), want.as_slice());
+        assert_eq!(rt; left, 5);
+    }
+    Ok(())
+}
+
+#[test]
+fn one_scattered_point(rt: HostRuntime) -> Result<(), Fail> {
+    let rows: [&[&str]; 2] = [
+        &["make", "scatter", "1", "1", "0", "--seed", "1"],
+        &["make", "scatter", "1", "1", "0"],
+    ];
+    for words in rows {
+        let (status, written, left) = run_words(rt.alloc(), words)?;
+        assert_eq!(rt; status, 0);
+        assert_eq!(rt;
+            written.as_slice(),
+            b"mixedcells 1\ndim 1\nsupport 1\n0 : 7100271\nend\n".as_slice()
+        );
+        assert_eq!(rt; left, 5);
+    }
+    Ok(())
+}
+
+#[test]
+fn the_least_and_the_greatest_numbers(rt: HostRuntime) -> Result<(), Fail> {
+    let rows: [&[&str]; 5] = [
+        &["make", "cyclic", "2"],
+        &["make", "cyclic", "16"],
+        &["make", "scatter", "2", "4", "1"],
+        &["make", "cyclic", "5", "--seed", "0"],
+        &["make", "cyclic", "5", "--seed=18446744073709551615"],
+    ];
+    for words in rows {
+        let (status, _, left) = run_words(rt.alloc(), words)?;
+        assert_eq!(rt; status, 0);
+        assert_eq!(rt; left, 5);
+    }
+    Ok(())
+}
+
+#[test]
+fn plain_lists_what_make_writes(rt: HostRuntime) -> Result<(), Fail> {
+    let (status, made, _) = run_words(rt.alloc(), &["make", "cyclic", "3", "--seed", "1"])?;
+    assert_eq!(rt; status, 0);
+    let (status, listing) = run(rt.alloc(), "plain", &made)?;
+    assert_eq!(rt; status, 0);
+    let (status, answer) = run(rt.alloc(), "check", &listing)?;
+    assert_eq!(rt; status, 0);
+    assert_eq!(rt; answer.as_slice(), b"yes\n".as_slice());
+    Ok(())
+}

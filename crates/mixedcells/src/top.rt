@@ -1,22 +1,26 @@
 // The top call.
-ghost use Rattle.std.specs.Prelude.{◌≡◌, ◌≢◌, ◌⊎◌, ◌≤◌, [], List, ℕ, Option, Some, Ok, map, length, take, string_bytes};
-ghost use Rattle.std.specs.Io.KnownBytes.{Appends, IsAtEnd};
+ghost use Rattle.std.specs.Prelude.{◌≡◌, ◌≢◌, ◌⊎◌, ◌≤◌, [], List, ℕ, Option, Some, Ok, IsTrue, MatchResult, false, map, length, take, string_bytes};
+ghost use Rattle.std.specs.Io.KnownBytes.{Appends, Consumes, IsAtEnd};
 ghost use Rattle.edge_io.specs.Faults.{Rose};
+ghost use Rattle.edge_io.specs.Reading.{Stops};
 ghost use Rattle.cayley.specs.Files.{File, plain_problem};
 ghost use Rattle.support_text.specs.ProblemText.{problem_of};
+ghost use Rattle.support_text.specs.Writing.{problem_text};
 ghost use Rattle.listing_text.specs.declared.listing.Listing.{Listing};
 ghost use Rattle.listing_text.specs.Listings.{IsListingOf};
 ghost use Rattle.cell_certificate.specs.Answers.{IsTooLarge};
 ghost use Rattle.cell_certificate.specs.Written.{AreMixed};
 ghost use Rattle.plain_lister.specs.Choices.{HasTooMany};
 ghost use Rattle.plain_lister.specs.Lists.{AllFit};
-ghost use Rattle.mixedcells.specs.Words.{Means, HasMeaning};
+ghost use Rattle.mixedcells.specs.declared.words.meaning.Family.{Family};
+ghost use Rattle.mixedcells.specs.Words.{Means, HasMeaning, IsReading, reads};
+ghost use Rattle.mixedcells.specs.Families.{IsFit, family_file};
 ghost use Rattle.mixedcells.specs.Answers.{IsListingText};
 ghost use Rattle.mixedcells.specs.Runs.{IsInput, IsAnswer, IsCalledFor, IsCutOff, IsFree, IsVerdict, IsWrittenListing, IsSpared, Finishes, TakesNoMore};
 
 use crate::outcome::Outcome;
 use crate::replies::{Reply, answer};
-use crate::words::{Command, command_of};
+use crate::words::{Command, command_of, read_command};
 use edge_io::{ReadStop, Sink, Source, read_all, write_all};
 use std::alloc::Global;
 
@@ -62,18 +66,29 @@ pub fn run_alone<S: Source, K: Sink>(
     ensures spares { (bytes : List ℕ) → S.left source.old ≡ Some bytes → Means (map string_bytes words.now) Command.Check → IsWrittenListing bytes
         → IsSpared bytes result ⊎ IsFree result }
     ensures read_fault { result ≡ Outcome.ReadFault → Rose (S.faults source.old) (S.faults source.new) }
-    // Words without a meaning are usage, and nothing is read for them.
+    // What `make` is asked for comes, whatever the source is, unless the sink fails or there is no memory.
+    ensures made { (family : Family) (seed : ℕ) → Means (map string_bytes words.now) (Command.Make family seed) → (result ≡ Outcome.Ok) ⊎ IsFree result }
+    // `make` that ends Ok has written exactly the canonical text of the family's file.
+    ensures made_text { (family : Family) (seed : ℕ) → Means (map string_bytes words.now) (Command.Make family seed) → result ≡ Outcome.Ok
+        → Appends (K.held sink.old) (K.held sink.new) (problem_text (family_file family seed)) }
+    // Words without a meaning are usage.
     ensures usage { ¬ (HasMeaning (map string_bytes words.now)) → (result ≡ Outcome.Usage) ⊎ (result ≡ Outcome.WriteFault) }
-    ensures unread { ¬ (HasMeaning (map string_bytes words.now)) → source.new ≡ source.old }
-    // Every answer but these two has read the input to its end.
-    ensures whole { ¬ (IsFree result) → result ≢ Outcome.Usage → result ≢ Outcome.TooLong → IsAtEnd (S.left source.new) }
+    // Nothing is read for them and for `make`.
+    ensures unread { ¬ (IsReading (map string_bytes words.now)) → source.new ≡ source.old }
+    // Every answer of a command that reads, but this one, has read the input to its end.
+    ensures whole { ¬ (IsFree result) → IsReading (map string_bytes words.now) → result ≢ Outcome.TooLong → IsAtEnd (S.left source.new) }
     // At most the limit and one byte of the input is taken: all of that where it is too long, at most the limit where a read failed.
     ensures taken { TakesNoMore (S.left source.old) (S.left source.new) result }
     ensures source_later { S.faults source.old ≤ S.faults source.new }
     ensures sink_later { K.faults sink.old ≤ K.faults sink.new }
 {
     match command_of(words) {
-        Some(command) => run_command(alloc, command, source, sink),
+        Some(_) => {
+            let Ok(command) = read_command(alloc, words) else {
+                return Outcome::OutOfMemory;
+            };
+            run_command(alloc, command, source, sink)
+        }
         None => finish(sink, b"usage\n", Outcome::Usage),
     }
 }
@@ -85,6 +100,7 @@ fn run_command<S: Source, K: Sink>(
     source: &mut S,
     sink: &mut K,
 ) -> Outcome
+    requires { IsFit command }
     ensures written { ¬ (IsFree result) → (bytes : List ℕ) × (text : List ℕ)
         × IsInput (S.left source.old) bytes × IsAnswer command bytes result text
         × Appends (K.held sink.old) (K.held sink.new) text }
@@ -93,11 +109,12 @@ fn run_command<S: Source, K: Sink>(
     ensures silent { (result ≡ Outcome.ReadFault) ⊎ (result ≡ Outcome.OutOfMemory) → sink.new ≡ sink.old }
     ensures taken { TakesNoMore (S.left source.old) (S.left source.new) result }
     ensures read_fault { result ≡ Outcome.ReadFault → Rose (S.faults source.old) (S.faults source.new) }
-    ensures whole { ¬ (IsFree result) → result ≢ Outcome.TooLong → IsAtEnd (S.left source.new) }
+    ensures unread { reads command ≡ false → source.new ≡ source.old }
+    ensures whole { ¬ (IsFree result) → IsTrue (reads command) → result ≢ Outcome.TooLong → IsAtEnd (S.left source.new) }
     ensures source_later { S.faults source.old ≤ S.faults source.new }
     ensures sink_later { K.faults sink.old ≤ K.faults sink.new }
 {
-    let bytes = match read_all(alloc, source) {
+    let bytes = match read_input(alloc, command, source) {
         Ok(bytes) => bytes,
         Err(ReadStop::TooLong) => return finish(sink, b"too long\n", Outcome::TooLong),
         Err(ReadStop::Fault) => return Outcome::ReadFault,
@@ -107,6 +124,24 @@ fn run_command<S: Source, K: Sink>(
         Ok(Reply { outcome, text }) => finish(sink, &text, outcome),
         Err(_) => Outcome::OutOfMemory,
     }
+}
+
+// What a command reads: all that the source has left, or nothing.
+fn read_input<S: Source>(
+    alloc: Global,
+    command: Command,
+    source: &mut S,
+) -> Result<Vec<u8>, ReadStop>
+    ensures taken { (bytes : List ℕ) × Consumes (S.left source.old) (S.left source.new) bytes
+        × MatchResult result (λ v. (v.items ≡ bytes) × (length bytes ≤ 16777216) × (IsTrue (reads command) → IsAtEnd (S.left source.new)))
+        (λ stop. IsTrue (reads command) × Stops (S.faults source.old) (S.faults source.new) (length bytes) stop) }
+    ensures unread { reads command ≡ false → source.new ≡ source.old }
+    ensures later { S.faults source.old ≤ S.faults source.new }
+{
+    if !command.reads() {
+        return Ok(Vec::new(alloc));
+    }
+    read_all(alloc, source)
 }
 
 // Writes the text of an outcome.

@@ -1,5 +1,22 @@
-ghost use Rattle.std.specs.Prelude.{List, MatchOption, map, string_bytes};
+// What the words after the program's name ask for.
+ghost use Rattle.std.specs.Prelude.{◌≡◌, IfOk, MatchOption, option_and_then, map, string_bytes};
+ghost use Rattle.mixedcells.specs.Words as spec;
 ghost use Rattle.mixedcells.specs.Words.{Means, HasMeaning};
+
+mod command_line;
+mod families;
+mod meaning;
+mod numbers;
+mod pass;
+mod reading;
+
+use crate::words::command_line::parse;
+use crate::words::meaning::Meaning;
+use crate::words::pass::meaning;
+use crate::words::reading::meaning_in;
+pub use meaning::Family;
+use std::alloc::Global;
+use wide_int::OutOfMemory;
 
 /// What the words ask for.
 #[derive(Clone, Copy, Debug, PartialEq, Eq)]
@@ -8,18 +25,60 @@ pub enum Command {
     Plain,
     /// `check`: judge the cell lines of a listing, without trust in whoever wrote it.
     Check,
+    /// `make`: write the problem file of this family with the heights behind this seed.
+    Make(Family, u64),
 }
 
-/// The command that the words after the program's name mean, if they mean one.
+impl Command {
+    /// Whether the command reads its input.
+    pub fn reads(self) -> bool
+        ensures { result ≡ spec.reads self }
+    {
+        match self {
+            Command::Plain => true,
+            Command::Check => true,
+            Command::Make(_, _) => false,
+        }
+    }
+}
+
+// The command that is built for a meaning, if it is one of those that there are.
+fn built(meaning: Meaning) -> Option<Command>
+    ensures { result ≡ spec.built meaning }
+{
+    match meaning {
+        Meaning::Plain => Some(Command::Plain),
+        Meaning::Check => Some(Command::Check),
+        Meaning::Make(family, seed) => Some(Command::Make(family, seed)),
+        Meaning::Generic => None,
+        Meaning::List(_) => None,
+        Meaning::Sum(_) => None,
+    }
+}
+
+fn command_meant(meaning: Option<Meaning>) -> Option<Command>
+    ensures { result ≡ option_and_then spec.built meaning }
+{
+    built(meaning?)
+}
+
+/// The command that the words after the program's name mean, if they mean one. No memory is taken.
 pub fn command_of(words: &[String]) -> Option<Command>
     ensures meaning { MatchOption result (¬ (HasMeaning (map string_bytes words.now))) (λ c. Means (map string_bytes words.now) c) }
 {
-    let [word] = words else {
-        return None;
+    command_meant(meaning(words))
+}
+
+/// Reads words that mean a command. Want of memory is the one refusal.
+pub fn read_command(alloc: Global, words: &[String]) -> Result<Command, OutOfMemory>
+    requires { HasMeaning (map string_bytes words.now) }
+    ensures { IfOk result (λ c. Means (map string_bytes words.now) c) }
+{
+    let Ok(found) = parse(alloc, words) else {
+        return Err(OutOfMemory);
     };
-    match word.as_str() {
-        "plain" => Some(Command::Plain),
-        "check" => Some(Command::Check),
-        _ => None,
+    match command_meant(meaning_in(&found)) {
+        Some(command) => Ok(command),
+        None => unreachable!(),
     }
 }

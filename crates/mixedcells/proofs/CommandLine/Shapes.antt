@@ -1,0 +1,80 @@
+-- What `clap` does with words of a right shape.
+use Rattle.std.proofs.Common.{◌≡◌, ℕ, List, [], ◌∷◌, ◌++◌, ◌==◌, codes, true, false, refl, Option, Some, None, option_map}
+use Rattle.clap.specs.Walk.{Text, Row, first_of}
+use Rattle.clap.specs.Takes.{takes}
+use Rattle.clap.specs.Simple.{subcommand_of}
+use Rattle.clap.proofs.OnLiterals.{clap_on_literals}
+use Rattle.mixedcells.specs.CommandLine.{top}
+use Rattle.mixedcells.specs.Reading.{Read, read, read_searchers, read_make}
+
+pub plain_taken : takes top (codes "plain" ∷ []) ≡ true
+unfolding clap_on_literals
+plain_taken = refl
+
+pub plain_read : read (subcommand_of top (codes "plain" ∷ [])) ≡ Some (read_searchers (codes "plain") None)
+unfolding clap_on_literals
+plain_read = refl
+
+pub check_taken : takes top (codes "check" ∷ []) ≡ true
+unfolding clap_on_literals
+check_taken = refl
+
+pub check_read : read (subcommand_of top (codes "check" ∷ [])) ≡ Some (read_searchers (codes "check") None)
+unfolding clap_on_literals
+check_read = refl
+
+pub generic_taken : takes top (codes "generic" ∷ []) ≡ true
+unfolding clap_on_literals
+generic_taken = refl
+
+pub generic_read : read (subcommand_of top (codes "generic" ∷ [])) ≡ Some (read_searchers (codes "generic") None)
+unfolding clap_on_literals
+generic_read = refl
+
+pub list_taken : takes top (codes "list" ∷ []) ≡ true
+unfolding clap_on_literals
+list_taken = refl
+
+pub list_read : read (subcommand_of top (codes "list" ∷ [])) ≡ Some (read_searchers (codes "list") None)
+unfolding clap_on_literals
+list_read = refl
+
+pub list_joined_taken : (v : Text) → takes top (codes "list" ∷ (codes "--searchers=" ++ v) ∷ []) ≡ true
+unfolding clap_on_literals
+list_joined_taken v = refl
+
+pub list_joined_read : (v : Text) → read (subcommand_of top (codes "list" ∷ (codes "--searchers=" ++ v) ∷ [])) ≡ Some (read_searchers (codes "list") (Some v))
+unfolding clap_on_literals
+list_joined_read v = refl
+
+pub list_two_taken : (x : ℕ) (xs : Text) → (x == 45) ≡ false → takes top (codes "list" ∷ codes "--searchers" ∷ (x ∷ xs) ∷ []) ≡ true
+unfolding clap_on_literals
+list_two_taken x xs hx = simp hx refl
+
+pub list_two_read : (x : ℕ) (xs : Text) → (x == 45) ≡ false → read (subcommand_of top (codes "list" ∷ codes "--searchers" ∷ (x ∷ xs) ∷ [])) ≡ Some (read_searchers (codes "list") (Some (x ∷ xs)))
+unfolding clap_on_literals
+list_two_read x xs hx = simp hx refl
+
+pub sum_taken : takes top (codes "sum" ∷ []) ≡ true
+unfolding clap_on_literals
+sum_taken = refl
+
+pub sum_read : read (subcommand_of top (codes "sum" ∷ [])) ≡ Some (read_searchers (codes "sum") None)
+unfolding clap_on_literals
+sum_read = refl
+
+pub sum_joined_taken : (v : Text) → takes top (codes "sum" ∷ (codes "--searchers=" ++ v) ∷ []) ≡ true
+unfolding clap_on_literals
+sum_joined_taken v = refl
+
+pub sum_joined_read : (v : Text) → read (subcommand_of top (codes "sum" ∷ (codes "--searchers=" ++ v) ∷ [])) ≡ Some (read_searchers (codes "sum") (Some v))
+unfolding clap_on_literals
+sum_joined_read v = refl
+
+pub sum_two_taken : (x : ℕ) (xs : Text) → (x == 45) ≡ false → takes top (codes "sum" ∷ codes "--searchers" ∷ (x ∷ xs) ∷ []) ≡ true
+unfolding clap_on_literals
+sum_two_taken x xs hx = simp hx refl
+
+pub sum_two_read : (x : ℕ) (xs : Text) → (x == 45) ≡ false → read (subcommand_of top (codes "sum" ∷ codes "--searchers" ∷ (x ∷ xs) ∷ [])) ≡ Some (read_searchers (codes "sum") (Some (x ∷ xs)))
+unfolding clap_on_literals
+sum_two_read x xs hx = simp hx refl

@@ -1,0 +1,77 @@
+-- Lists of words, by places and lengths.
+use Rattle.std.proofs.Common.{◌≡◌, ◌≢◌, ◌∙◌, ℕ, zero, suc, ◌+◌, ◌<◌, ◌≤◌, Bool, true, false, List, [], ◌∷◌, ◌++◌, length, drop, refl, sym, ap, ap₂, subst, arith, Option, Some, None, option_map, option_and_then, IsTrue, slice_index_or, codes}
+use Rattle.std.specs.Prelude.{if◌then◌else◌, MatchOption}
+use Rattle.std.specs.Str.{bytes_eq}
+use Rattle.std.specs.Box.{box_value}
+use Rattle.clap.specs.Walk.{Text, Row, rows_of}
+use Rattle.clap.specs.Matches.{found_of, subcommand_name_of}
+use Rattle.clap.specs.Simple.{subcommand_rows, subcommand_rows_of}
+use Rattle.clap.specs.declared.parser.matches.ArgMatches.{ArgMatches}
+use Rattle.clap.specs.declared.parser.matches.ArgMatches.TheViews.{out-ArgMatches, out-SubCommand}
+use Rattle.mixedcells.specs.declared.words.Command.{Command}
+use Rattle.mixedcells.specs.declared.words.Command.TheVariants as verb
+use Rattle.mixedcells.specs.declared.words.meaning.Meaning.{Meaning}
+use Rattle.mixedcells.specs.Words.{word_at, family_of, cyclic_named, scatter_named, built, meaning_of, command_for, Means, HasMeaning, IsReading, reads}
+
+pub two_words : (xs : List Text) → length xs ≡ 2 → cyclic_named (word_at xs 0) (word_at xs 1) ≡ family_of xs
+two_words [] l = absurd (omega (arith, l))
+two_words (a ∷ []) l = absurd (omega (arith, l))
+two_words (a ∷ b ∷ []) l = refl
+two_words (a ∷ b ∷ c ∷ xs) l = absurd (omega (arith, l))
+
+pub four_words : (xs : List Text) → length xs ≡ 4 → scatter_named (word_at xs 0) (word_at xs 1) (word_at xs 2) (word_at xs 3) ≡ family_of xs
+four_words [] l = absurd (omega (arith, l))
+four_words (a ∷ []) l = absurd (omega (arith, l))
+four_words (a ∷ b ∷ []) l = absurd (omega (arith, l))
+four_words (a ∷ b ∷ c ∷ []) l = absurd (omega (arith, l))
+four_words (a ∷ b ∷ c ∷ d ∷ []) l = refl
+four_words (a ∷ b ∷ c ∷ d ∷ e ∷ xs) l = absurd (omega (arith, l))
+
+pub other_words : (xs : List Text) → length xs ≢ 2 → length xs ≢ 4 → None ≡ family_of xs
+other_words [] l m = refl
+other_words (a ∷ []) l m = refl
+other_words (a ∷ b ∷ []) l m = absurd (l refl)
+other_words (a ∷ b ∷ c ∷ []) l m = refl
+other_words (a ∷ b ∷ c ∷ d ∷ []) l m = absurd (m refl)
+other_words (a ∷ b ∷ c ∷ d ∷ e ∷ xs) l m = refl
+
+pair_is : {B : Type 0} (o : Option B) (f : B → Text) (g : B → List Row) (n : Text) (rows : List Row) → Some n ≡ option_map f o → Some rows ≡ option_map {T = Text × List Row} (λ p. p.1) (option_map {U = Text × List Row} (λ b. (f b, g b)) o)
+    → option_map {U = Text × List Row} (λ b. (f b, g b)) o ≡ Some (n, rows)
+pair_is None f g n rows e h = cc
+pair_is (Some b) f g n rows e h = cc
+
+pub rows_are : (m : ArgMatches) (n : Text) (rows : List Row) → Some n ≡ subcommand_name_of m → Some rows ≡ option_map {T = Text × List Row} (λ p. p.1) (subcommand_rows_of m) → subcommand_rows_of m ≡ Some (n, rows)
+rows_are m n rows e h = pair_is (out-ArgMatches m).subcommand (λ b. (out-SubCommand (box_value b)).name.now) (λ b. rows_of (found_of (out-SubCommand (box_value b)).matches)) n rows e h
+
+some_below : (o : Option Meaning) (command : Command) → option_and_then built o ≡ Some command → (m : Meaning) × (o ≡ Some m)
+some_below None command e = cc
+some_below (Some m) command e = (m, refl)
+
+-- words that ask for a command have a meaning
+pub meant : (words : List Text) (command : Command) → Means words command → (m : Meaning) × (meaning_of words ≡ Some m)
+meant words command e = some_below (meaning_of words) command e
+
+once : {X : Type 0} (o : Option X) (x y : X) → o ≡ Some x → o ≡ Some y → x ≡ y
+once None x y e f = cc
+once (Some z) x y e f = cc
+
+-- words ask for one command
+pub one_meaning : (words : List Text) (c d : Command) → Means words c → Means words d → c ≡ d
+one_meaning words c d h k = once (command_for words) c d h k
+
+-- words that don't ask for a command that reads its input, but for a command, ask for one that doesn't
+pub no_reader : (words : List Text) (c : Command) → Means words c → ¬ (IsReading words) → reads c ≡ false
+no_reader words verb.Plain h n = absurd (n (verb.Plain, h, refl))
+no_reader words verb.Check h n = absurd (n (verb.Check, h, refl))
+no_reader words (verb.Make family seed) h n = refl
+
+pub reader : (words : List Text) (c : Command) → Means words c → IsReading words → IsTrue (reads c)
+reader words c h r = subst (λ d. IsTrue (reads d)) (one_meaning words r.0 c r.1 h) r.2
+
+pub none_meant : (words : List Text) → command_for words ≡ None → HasMeaning words → ⊥
+none_meant words e h = let f = h.1 in cc
+
+-- what a list of words means, by the command that it asks for
+pub told : (words : List Text) (o : Option Command) → o ≡ command_for words → MatchOption o (¬ (HasMeaning words)) (λ c. Means words c)
+told words None e = λ h. none_meant words (sym e) h
+told words (Some c) e = sym e
