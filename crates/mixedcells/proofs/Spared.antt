@@ -6,7 +6,7 @@ use Rattle.std.proofs.lemmas.List.{length-map}
 use Rattle.wide_int.specs.Whole.{FitsWhole}
 use Rattle.int_vectors.specs.Vectors.{Each, at}
 use Rattle.cayley.specs.Times.{time_zero}
-use Rattle.cayley.specs.Problems.{Problem, point_at}
+use Rattle.cayley.specs.Problems.{Problem, IsProblem, point_at}
 use Rattle.cayley.specs.Cells.{Cell, IsOf, EachPair, IsFurther, IsSorted}
 use Rattle.cayley.specs.Normals.{Normal, IsNormal}
 use Rattle.cayley.specs.Mixed.{IsAlive, IsMixedCell, IsLowestNormal, HasFirstEntries}
@@ -15,24 +15,27 @@ use Rattle.cayley.specs.Valid.{IsValidFile}
 use Rattle.cayley.specs.declared.found.FoundCell.{FoundCell}
 use Rattle.cayley.proofs.OneCell.CellNormals.{length-scale}
 use Rattle.cayley.proofs.Lists.Each.{map_map, each_unmap, each_weaker}
-use Rattle.cayley.proofs.OneCell.PlainProblems.{plain_is}
+use Rattle.cayley.proofs.OneCell.PlainProblems.{plain_of}
+use Rattle.cayley.proofs.OneCell.Unperturbed.{same_of}
 use Rattle.listing_text.specs.declared.listing.Listing.{Listing}
 use Rattle.listing_text.specs.declared.listing.ListedCell.{ListedCell}
 use Rattle.listing_text.specs.ListingText.{Listed, counts_of, listing_of}
 use Rattle.listing_text.specs.Forms.{IsCellOf, IsEntry, IsFormed, found_of}
 use Rattle.listing_text.specs.Listings.{AreMixedCells}
-use Rattle.listing_text.proofs.Formed.{meant_valid, listing_formed}
+use Rattle.listing_text.proofs.Formed.{meant_valid, plain_same, listing_formed}
 use Rattle.listing_text.proofs.ListingBack.{listing_back}
-use Rattle.plain_lister.specs.Workings.{FitsWall, denominator, resting_part}
-use Rattle.plain_lister.specs.Workings as plain
+use Rattle.reduced_rows.specs.Denominators.{shares}
+use Rattle.inner_normal.specs.Workings.{denominator}
+use Rattle.inner_normal.proofs.Meaning.{reduced_of}
+use Rattle.cone_walls.specs.Numbers.{FitsWall}
+use Rattle.cone_walls.specs.Workings.{normal_of_rows, FitsWalls, FitsWallWorking}
 use Rattle.plain_lister.specs.Lists.{AllFit}
-use Rattle.cell_certificate.specs.Sums.{FitsAt}
+use Rattle.cell_certificate.specs.Sums.{FitsAt, FitsFurther}
 use Rattle.cell_certificate.specs.declared.verdict.Verdict.TheVariants.{Yes, No}
 use Rattle.cell_certificate.specs.declared.verdict.CheckFault.TheVariants.{Overflow, OutOfMemory}
 use Rattle.cell_certificate.specs.Answers.{Answer, HadMemory}
 use Rattle.cell_certificate.specs.Written as written
 use Rattle.cell_certificate.specs.Written.{IsWritten, SparesWritten}
-use Rattle.cell_certificate.proofs.Levels.{even_of}
 use Rattle.cell_certificate.proofs.LowestLevel.{lowest_level}
 use Rattle.cell_certificate.proofs.PlainPoints.{valid_of, own_points}
 use Rattle.cell_certificate.proofs.Together.{pairs_map}
@@ -49,13 +52,19 @@ use Rattle.mixedcells.proofs.Counted.{few_cells}
 
 -- ---- workings
 
-fits_working : (p : Problem) (cell : Cell) → plain.FitsWorking p cell → written.FitsWritten p cell
-fits_working p cell h = (
+-- the first number of each wall line, over the dimension
+first_fits : (p : Problem) (cell : Cell) (made : List (List ℤ)) (n : ℕ) → length made ≡ n → FitsWalls p cell (normal_of_rows made) → FitsFurther p cell (shares n 0 (denominator made) made) (pos (denominator made))
+first_fits p cell made n e h = subst (λ k. FitsFurther p cell (shares k 0 (denominator made) made) (pos (denominator made))) e (
+  pairs_map p.supports cell
+  (λ s a b. (c : ℕ) → IsFurther s a b c → FitsWall (normal_of_rows made) (point_at s a) (point_at s c))
+  (λ s a b. (c : ℕ) → FitsAt (pos (denominator made)) (shares (length made) 0 (denominator made) made) s a b c)
+  h (λ s a b f c u. (f c u).0)
+)
+
+fits_working : (p : Problem) (cell : Cell) → IsProblem p → IsOf p cell → FitsWallWorking p cell → written.FitsWritten p cell
+fits_working p cell well of h = (
   h.0,
-  λ made e. pairs_map p.supports cell
-      (λ s a b. (c : ℕ) → IsFurther s a b c → FitsWall p.dimension made (point_at s a) (point_at s c))
-      (λ s a b. (c : ℕ) → FitsAt (pos (denominator made)) (resting_part p.dimension made) s a b c)
-      (h.1 made e).1 (λ s a b f c u. (f c u).0),
+  λ made e. (first_fits p cell made p.dimension (reduced_of p cell well of made (h.0, e)).count (h.1 made e).1, (h.1 made e).2),
 )
 
 -- ---- what is written is in form
@@ -89,18 +98,17 @@ each_mixed file found m =
 
 module _ (file : File) (valid : IsValidFile file) where
   cell_formed : (x : FoundCell) → IsMixedCell (plain_problem file) x.cell → IsLowestNormal (plain_problem file) x.cell x.normal.v x.normal.den
-      → plain.FitsWorking (plain_problem file) x.cell → IsFormed (counts_of file) x
+      → FitsWallWorking (plain_problem file) x.cell → IsFormed (counts_of file) x
   cell_formed x m n w =
       let p = plain_problem file in
       let well = (valid_of file valid).shape.problem in
-      let even = even_of file valid in
       let alive = subst (λ q. IsAlive q x.cell time_zero) (own_points file valid) m in
       let normal = subst (λ q. IsNormal q x.cell time_zero n.2.0) (own_points file valid) n.2.1 in
       let long : length x.normal.v ≡ p.dimension = first_length n.2.0 x.normal.v x.normal.den n.2.2 ∙ normal.0 in
-      let level = lowest_level p x.cell even alive.0 x.normal.v x.normal.den n.2.0 long n.0 normal n.2.2 in
-      let fit = entries_fit p x.cell well even alive.0 alive.1 x.normal.den x.normal.v long n.0 n.1 level (λ made e. let r = (w.1 made e).0 in (r.0, r.1)) in
+      let level = lowest_level p x.cell alive.0 x.normal.v x.normal.den n.2.0 long n.0 normal n.2.2 in
+      let fit = entries_fit p x.cell well alive.0 alive.1 x.normal.den x.normal.v long n.0 n.1 level (λ made e. let r = (w.1 made e).0 in (r.0, r.1)) in
       record {
-        cell = cell_of_file file.supports x.cell (subst (λ (q : Problem). IsOf q x.cell) (sym (plain_is file valid.version)) alive.0);
+        cell = cell_of_file file.supports x.cell (same_of (plain_problem file) (plain_of file.dimension file.supports) x.cell (sym (plain_same file)) alive.0);
         size = long ∙ sym valid.shape.supports ∙ sym (length-map file.supports length);
         entries = each_weaker FitsWhole IsEntry x.normal.v entry_of fit.1;
         den = over_of x.normal.den fit.0 n.0;
@@ -118,7 +126,7 @@ module _ (file : File) (valid : IsValidFile file) where
   each_working [] m fit = tt
   each_working (x ∷ lines) m fit =
       let of = (subst (λ q. IsAlive q x.cell time_zero) (own_points file valid) m.0).0 in
-      (fits_working (plain_problem file) x.cell (fit x.cell of), each_working lines m.1 fit)
+      (fits_working (plain_problem file) x.cell (valid_of file valid).shape.problem of (fit x.cell of), each_working lines m.1 fit)
 
 -- ---- what `plain` wrote
 

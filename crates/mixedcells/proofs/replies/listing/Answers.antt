@@ -1,10 +1,14 @@
-use Rattle.cayley.specs.Problems.{HasNoCorners}
 use Rattle.std.proofs.Common.{subst, sym}
-use Rattle.mixedcells.proofs.Listings.{no_corners, listing_reply}
+use Rattle.cayley.specs.Problems.{HasNoCorners, IsStill}
+use Rattle.plain_lister.proofs.PlainProblem.{plain_alone, plain_rests}
+use Rattle.mixedcells.proofs.Listings.{listing_reply}
 use Rattle.mixedcells.proofs.replies.listing.Goals as goal
 
 pub plain_list-requires : goal.plain_list-requires
-plain_list-requires c = record { alone = subst HasNoCorners (sym c.in_ok-problem.ensures) (no_corners c.args.file.now c.dim-dim.ensures.valid) }
+plain_list-requires c = record {
+  alone = subst HasNoCorners (sym c.in_ok-problem.ensures) (plain_alone c.args.file.now);
+  still = subst IsStill (sym c.in_ok-problem.ensures) (plain_rests c.args.file.now);
+}
 
 pub returns-in-Ok : goal.returns-in-Ok
 returns-in-Ok c =
