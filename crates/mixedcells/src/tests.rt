@@ -131,7 +131,7 @@ fn refusals_by_their_lines(rt: HostRuntime) -> Result<(), Fail> {
             b"format: line 7 kind 7\n",
         ),
         (
-            b"mixedcells 2\ndim 1\nsupport 1\n0 : 0\nend\n",
+            b"mixedcells 3\ndim 1\nsupport 1\n0 : 0\nend\n",
             3,
             b"format: line 1 kind 1\n",
         ),
@@ -156,6 +156,27 @@ fn seven_long_edges_overflow(rt: HostRuntime) -> Result<(), Fail> {
         written.as_slice(),
         b"overflow: cell 1 2 1 2 1 2 1 2 1 2 1 2 1 2\n".as_slice()
     );
+    Ok(())
+}
+
+// Three level points, their heights perturbed.
+const PERTURBED: &[u8] = b"mixedcells 2\ndim 1\nsupport 3\n0 : 0\n1 : 0\n2 : 0\nend\n";
+
+#[test]
+fn perturbed_points_are_listed_and_judged(rt: HostRuntime) -> Result<(), Fail> {
+    let (status, listing) = run(rt.alloc(), "plain", PERTURBED)?;
+    let mut want = PERTURBED.to_vec(rt.alloc())?;
+    want.extend_from_slice(b"cells 2\ncell 1 2 : 0 / 1\ncell 2 3 : 0 / 1\nend\n")?;
+    assert_eq!(rt; status, 0);
+    assert_eq!(rt; listing.as_slice(), want.as_slice());
+    let (status, answer) = run(rt.alloc(), "check", &listing)?;
+    assert_eq!(rt; status, 0);
+    assert_eq!(rt; answer.as_slice(), b"yes\n".as_slice());
+    let mut wrong = PERTURBED.to_vec(rt.alloc())?;
+    wrong.extend_from_slice(b"cells 1\ncell 1 3 : 0 / 1\nend\n")?;
+    let (status, answer) = run(rt.alloc(), "check", &wrong)?;
+    assert_eq!(rt; status, 1);
+    assert_eq!(rt; answer.as_slice(), b"no: line 9 reason 4\n".as_slice());
     Ok(())
 }
 
@@ -327,12 +348,20 @@ fn check_takes_no_further_word(rt: HostRuntime) -> Result<(), Fail> {
     Ok(())
 }
 
-// The status of a run of these words, what it wrote, and how many bytes of five it left in the source.
-fn run_words(alloc: Global, texts: &[&str]) -> Result<(u8, Vec<u8>, usize), Fail> {
+// The words of a row; the empty ones at its end are none.
+fn words_of(alloc: Global, row: &[&str]) -> Result<Vec<String>, Fail> {
     let mut words = Vec::new(alloc);
-    for text in texts {
-        words.push(String::from_str(alloc, text)?)?;
+    for text in row {
+        if !text.is_empty() {
+            words.push(String::from_str(alloc, text)?)?;
+        }
     }
+    Ok(words)
+}
+
+// The status of a run of a row's words, what it wrote, and how many bytes of five it left in the source.
+fn run_words(alloc: Global, row: &[&str]) -> Result<(u8, Vec<u8>, usize), Fail> {
+    let words = words_of(alloc, row)?;
     let mut source = SteadySource::new(b"dim 1".to_vec(alloc)?);
     let Ok(mut sink) = MemorySink::new(alloc, 65_536, 65_536, Vec::new(alloc)) else {
         return Err(Fail::from("out of memory"));
@@ -345,42 +374,55 @@ fn run_words(alloc: Global, texts: &[&str]) -> Result<(u8, Vec<u8>, usize), Fail
 
 #[test]
 fn words_that_mean_nothing(rt: HostRuntime) -> Result<(), Fail> {
-    let rows: [&[&str]; 32] = [
-        &[],
-        &["list", "--searchers", "0"],
-        &["list", "--searchers", "65"],
-        &["list", "extra"],
-        &["make", "scatter", "1", "3", "1"],
-        &["help"],
-        &["-h"],
-        &["--help"],
-        &["--version"],
-        &["--"],
-        &["--", "plain"],
-        &["plain", "--"],
-        &["plai"],
-        &["Plain"],
-        &["check", "extra"],
-        &["make"],
-        &["make", "cyclic"],
-        &["make", "cyclic", "1"],
-        &["make", "cyclic", "17"],
-        &["make", "cyclic", "+5"],
-        &["make", "cyclic", "000000000000000000005"],
-        &["make", "cyclic", "5", "6"],
-        &["make", "--", "cyclic", "5"],
-        &["make", "cyclic", "5", "--"],
-        &["make", "cyclic", "5", "--see", "1"],
-        &["make", "cyclic", "5", "-s", "1"],
-        &["make", "cyclic", "5", "--seed"],
-        &["make", "cyclic", "5", "--seed", "-1"],
-        &["make", "cyclic", "5", "--seed="],
-        &["make", "cyclic", "5", "--seed", "18446744073709551616"],
-        &["make", "--seed", "1", "cyclic", "5", "--seed", "1"],
-        &["make", "scatter", "2", "5", "1"],
+    let rows = [
+        ["", "", "", "", "", "", ""],
+        ["list", "--searchers", "0", "", "", "", ""],
+        ["list", "--searchers", "65", "", "", "", ""],
+        ["list", "extra", "", "", "", "", ""],
+        ["make", "scatter", "1", "3", "1", "", ""],
+        ["help", "", "", "", "", "", ""],
+        ["-h", "", "", "", "", "", ""],
+        ["--help", "", "", "", "", "", ""],
+        ["--version", "", "", "", "", "", ""],
+        ["--", "", "", "", "", "", ""],
+        ["--", "plain", "", "", "", "", ""],
+        ["plain", "--", "", "", "", "", ""],
+        ["plai", "", "", "", "", "", ""],
+        ["Plain", "", "", "", "", "", ""],
+        ["check", "extra", "", "", "", "", ""],
+        ["make", "", "", "", "", "", ""],
     ];
     for words in rows {
-        let (status, written, left) = run_words(rt.alloc(), words)?;
+        let (status, written, left) = run_words(rt.alloc(), words.as_slice())?;
+        assert_eq!(rt; status, 2);
+        assert_eq!(rt; written.as_slice(), b"usage\n".as_slice());
+        assert_eq!(rt; left, 5);
+    }
+    Ok(())
+}
+
+#[test]
+fn words_of_make_that_mean_nothing(rt: HostRuntime) -> Result<(), Fail> {
+    let rows = [
+        ["make", "cyclic", "", "", "", "", ""],
+        ["make", "cyclic", "1", "", "", "", ""],
+        ["make", "cyclic", "17", "", "", "", ""],
+        ["make", "cyclic", "+5", "", "", "", ""],
+        ["make", "cyclic", "000000000000000000005", "", "", "", ""],
+        ["make", "cyclic", "5", "6", "", "", ""],
+        ["make", "--", "cyclic", "5", "", "", ""],
+        ["make", "cyclic", "5", "--", "", "", ""],
+        ["make", "cyclic", "5", "--see", "1", "", ""],
+        ["make", "cyclic", "5", "-s", "1", "", ""],
+        ["make", "cyclic", "5", "--seed", "", "", ""],
+        ["make", "cyclic", "5", "--seed", "-1", "", ""],
+        ["make", "cyclic", "5", "--seed=", "", "", ""],
+        ["make", "cyclic", "5", "--seed", "18446744073709551616", "", ""],
+        ["make", "--seed", "1", "cyclic", "5", "--seed", "1"],
+        ["make", "scatter", "2", "5", "1", "", ""],
+    ];
+    for words in rows {
+        let (status, written, left) = run_words(rt.alloc(), words.as_slice())?;
         assert_eq!(rt; status, 2);
         assert_eq!(rt; written.as_slice(), b"usage\n".as_slice());
         assert_eq!(rt; left, 5);
@@ -391,17 +433,17 @@ fn words_that_mean_nothing(rt: HostRuntime) -> Result<(), Fail> {
 #[test]
 fn make_takes_its_option_anywhere(rt: HostRuntime) -> Result<(), Fail> {
     let (_, want, _) = run_words(rt.alloc(), &["make", "cyclic", "5", "--seed", "7"])?;
-    let rows: [&[&str]; 7] = [
-        &["make", "cyclic", "5", "--seed=7"],
-        &["make", "cyclic", "--seed", "7", "5"],
-        &["make", "cyclic", "--seed=7", "5"],
-        &["make", "--seed", "7", "cyclic", "5"],
-        &["make", "--seed=7", "cyclic", "5"],
-        &["make", "cyclic", "005", "--seed=00000000000000000007"],
-        &["make", "--seed", "07", "cyclic", "00000000000000000005"],
+    let rows = [
+        ["make", "cyclic", "5", "--seed=7", "", "", ""],
+        ["make", "cyclic", "--seed", "7", "5", "", ""],
+        ["make", "cyclic", "--seed=7", "5", "", "", ""],
+        ["make", "--seed", "7", "cyclic", "5", "", ""],
+        ["make", "--seed=7", "cyclic", "5", "", "", ""],
+        ["make", "cyclic", "005", "--seed=00000000000000000007", "", "", ""],
+        ["make", "--seed", "07", "cyclic", "00000000000000000005", "", ""],
     ];
     for words in rows {
-        let (status, written, left) = run_words(rt.alloc(), words)?;
+        let (status, written, left) = run_words(rt.alloc(), words.as_slice())?;
         assert_eq!(rt; status, 0);
         assert_eq!(rt; written.as_slice(), want.as_slice());
         assert_eq!(rt; left, 5);
@@ -411,12 +453,12 @@ fn make_takes_its_option_anywhere(rt: HostRuntime) -> Result<(), Fail> {
 
 #[test]
 fn one_scattered_point(rt: HostRuntime) -> Result<(), Fail> {
-    let rows: [&[&str]; 2] = [
-        &["make", "scatter", "1", "1", "0", "--seed", "1"],
-        &["make", "scatter", "1", "1", "0"],
+    let rows = [
+        ["make", "scatter", "1", "1", "0", "--seed", "1"],
+        ["make", "scatter", "1", "1", "0", "", ""],
     ];
     for words in rows {
-        let (status, written, left) = run_words(rt.alloc(), words)?;
+        let (status, written, left) = run_words(rt.alloc(), words.as_slice())?;
         assert_eq!(rt; status, 0);
         assert_eq!(rt;
             written.as_slice(),
@@ -429,15 +471,15 @@ fn one_scattered_point(rt: HostRuntime) -> Result<(), Fail> {
 
 #[test]
 fn the_least_and_the_greatest_numbers(rt: HostRuntime) -> Result<(), Fail> {
-    let rows: [&[&str]; 5] = [
-        &["make", "cyclic", "2"],
-        &["make", "cyclic", "16"],
-        &["make", "scatter", "2", "4", "1"],
-        &["make", "cyclic", "5", "--seed", "0"],
-        &["make", "cyclic", "5", "--seed=18446744073709551615"],
+    let rows = [
+        ["make", "cyclic", "2", "", "", "", ""],
+        ["make", "cyclic", "16", "", "", "", ""],
+        ["make", "scatter", "2", "4", "1", "", ""],
+        ["make", "cyclic", "5", "--seed", "0", "", ""],
+        ["make", "cyclic", "5", "--seed=18446744073709551615", "", "", ""],
     ];
     for words in rows {
-        let (status, _, left) = run_words(rt.alloc(), words)?;
+        let (status, _, left) = run_words(rt.alloc(), words.as_slice())?;
         assert_eq!(rt; status, 0);
         assert_eq!(rt; left, 5);
     }
