@@ -2,3 +2,4 @@ pub mod NumberSigns
 pub mod Rules
 mod Walls
 pub mod Pairs
+mod Worked

@@ -53,5 +53,7 @@ fn the_other_supports_stay(rt: HostRuntime) {
     if let (Some(signs), Some(cell)) = (signs, cell) {
         let next = successors(&cell, 2, 7, &signs);
         assert!(rt; are(&next, &[(3, 4), (4, 7), (5, 6)]));
+    } else {
+        assert!(rt; false, "signs with a minus and a cell that rises");
     }
 }

@@ -144,7 +144,11 @@ fn a_normal_of_reduced_rows(rt: HostRuntime) -> Result<(), Fail> {
             assert_eq!(rt; moving.p.as_slice(), [3, -5].as_slice());
             assert_eq!(rt; moving.q.as_slice(), [-1, 3].as_slice());
             assert_eq!(rt; moving.den, 2);
+        } else {
+            assert!(rt; false, "a cell of the problem");
         }
+    } else {
+        assert!(rt; false, "pairs that rise");
     }
     Ok(())
 }
