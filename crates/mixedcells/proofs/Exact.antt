@@ -1,5 +1,5 @@
 -- What the words and the input call for is one outcome.
-use Rattle.std.proofs.Common.{◌≡◌, ◌⊎◌, ℕ, ◌<◌, ◌≤◌, ◌∙◌, List, [], ◌∷◌, length, Option, Some, Ok, IsTrue, false, take, refl, sym, ap, subst, arith, inl, inr}
+use Rattle.std.proofs.Common.{◌≡◌, ◌⊎◌, ℕ, ◌<◌, ◌≤◌, ◌∙◌, List, length, Option, Some, Ok, IsTrue, false, take, refl, sym, ap, subst, arith, inl, inr}
 use native.Mathlib.Decide.{ℕ_discrete, dec_lt}
 use Rattle.cayley.specs.Problems.{Problem}
 use Rattle.cayley.specs.Cells.{Cell}

@@ -2,15 +2,18 @@
 use Rattle.std.proofs.Common.{◌≡◌, ℕ, List, subst}
 use Rattle.int_vectors.specs.Vectors.{Each}
 use Rattle.cayley.specs.Problems.{Problem}
-use Rattle.cayley.specs.Cells.{IsListOf}
+use Rattle.cayley.specs.Cells.{Cell, IsListOf}
 use Rattle.cayley.specs.Mixed.{IsMixedCell}
 use Rattle.cayley.specs.Files.{File, plain_problem}
 use Rattle.cayley.specs.declared.found.FoundCell.{FoundCell}
 use Rattle.listing_text.specs.Writing.{listing_text}
 use Rattle.plain_lister.specs.Choices.{HasTooMany}
-use Rattle.plain_lister.specs.Lists.{HasLowestNormal, AllFit}
+use Rattle.plain_lister.specs.declared.faults.PlainFault.{PlainFault}
+use Rattle.plain_lister.specs.declared.faults.PlainFault.TheVariants.{Overflow}
+use Rattle.plain_lister.specs.Lists.{HasLowestNormal, AllFit, IsFirstUnfit, IsPlainFault}
 use Rattle.plain_lister.specs.Progress.{cells_of}
 use Rattle.mixedcells.specs.declared.outcome.Outcome.TheVariants as variant
+use Rattle.mixedcells.specs.Outcomes.{overflow_cell}
 use Rattle.mixedcells.specs.Answers.{IsListReply}
 
 pub listing_reply : (file : File) (p : Problem) (found : List FoundCell) (text : List ℕ) → p ≡ plain_problem file → IsListOf (IsMixedCell p) (cells_of found)
@@ -27,3 +30,9 @@ listing_reply file p found text e l n c t = (
     t,
   ),
 )
+
+pub overflow_reply : (file : File) (p : Problem) (cell : Cell) (fault : PlainFault) (text : List ℕ) → p ≡ plain_problem file → fault ≡ Overflow cell → IsPlainFault p fault → text ≡ overflow_cell cell
+    → IsListReply file (variant.OverflowCell cell) text
+overflow_reply file p cell fault text e f h t =
+    let k = subst (IsPlainFault p) f h in
+    (t, subst (λ q. ¬ (HasTooMany q)) e k.0, subst (λ q. IsFirstUnfit q cell) e k.1)

@@ -55,11 +55,11 @@ use Rattle.mixedcells.proofs.Counted.{few_cells}
 -- the first number of each wall line, over the dimension
 first_fits : (p : Problem) (cell : Cell) (made : List (List ℤ)) (n : ℕ) → length made ≡ n → FitsWalls p cell (normal_of_rows made) → FitsFurther p cell (shares n 0 (denominator made) made) (pos (denominator made))
 first_fits p cell made n e h = subst (λ k. FitsFurther p cell (shares k 0 (denominator made) made) (pos (denominator made))) e (
-  pairs_map p.supports cell
-  (λ s a b. (c : ℕ) → IsFurther s a b c → FitsWall (normal_of_rows made) (point_at s a) (point_at s c))
-  (λ s a b. (c : ℕ) → FitsAt (pos (denominator made)) (shares (length made) 0 (denominator made) made) s a b c)
-  h (λ s a b f c u. (f c u).0)
-)
+    pairs_map p.supports cell
+    (λ s a b. (c : ℕ) → IsFurther s a b c → FitsWall (normal_of_rows made) (point_at s a) (point_at s c))
+    (λ s a b. (c : ℕ) → FitsAt (pos (denominator made)) (shares (length made) 0 (denominator made) made) s a b c)
+    h (λ s a b f c u. (f c u).0)
+    )
 
 fits_working : (p : Problem) (cell : Cell) → IsProblem p → IsOf p cell → FitsWallWorking p cell → written.FitsWritten p cell
 fits_working p cell well of h = (

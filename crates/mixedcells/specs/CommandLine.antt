@@ -1,5 +1,5 @@
 -- The command as `clap` sees it. No value has a parser: the ranges are tested on what it read.
-use Rattle.std.specs.Prelude.{[], ◌∷◌, codes, Some, true}
+use Rattle.std.specs.Prelude.{codes, Some, true}
 use Rattle.clap.specs.Walk.{Rule, Text}
 use Rattle.clap.specs.Simple.{App, Shape, new_app, new_rule, with_rule, with_subcommand}
 

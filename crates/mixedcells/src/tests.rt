@@ -417,7 +417,15 @@ fn words_of_make_that_mean_nothing(rt: HostRuntime) -> Result<(), Fail> {
         ["make", "cyclic", "5", "--seed", "", "", ""],
         ["make", "cyclic", "5", "--seed", "-1", "", ""],
         ["make", "cyclic", "5", "--seed=", "", "", ""],
-        ["make", "cyclic", "5", "--seed", "18446744073709551616", "", ""],
+        [
+            "make",
+            "cyclic",
+            "5",
+            "--seed",
+            "18446744073709551616",
+            "",
+            "",
+        ],
         ["make", "--seed", "1", "cyclic", "5", "--seed", "1"],
         ["make", "scatter", "2", "5", "1", "", ""],
     ];
@@ -439,8 +447,24 @@ fn make_takes_its_option_anywhere(rt: HostRuntime) -> Result<(), Fail> {
         ["make", "cyclic", "--seed=7", "5", "", "", ""],
         ["make", "--seed", "7", "cyclic", "5", "", ""],
         ["make", "--seed=7", "cyclic", "5", "", "", ""],
-        ["make", "cyclic", "005", "--seed=00000000000000000007", "", "", ""],
-        ["make", "--seed", "07", "cyclic", "00000000000000000005", "", ""],
+        [
+            "make",
+            "cyclic",
+            "005",
+            "--seed=00000000000000000007",
+            "",
+            "",
+            "",
+        ],
+        [
+            "make",
+            "--seed",
+            "07",
+            "cyclic",
+            "00000000000000000005",
+            "",
+            "",
+        ],
     ];
     for words in rows {
         let (status, written, left) = run_words(rt.alloc(), words.as_slice())?;
@@ -476,7 +500,15 @@ fn the_least_and_the_greatest_numbers(rt: HostRuntime) -> Result<(), Fail> {
         ["make", "cyclic", "16", "", "", "", ""],
         ["make", "scatter", "2", "4", "1", "", ""],
         ["make", "cyclic", "5", "--seed", "0", "", ""],
-        ["make", "cyclic", "5", "--seed=18446744073709551615", "", "", ""],
+        [
+            "make",
+            "cyclic",
+            "5",
+            "--seed=18446744073709551615",
+            "",
+            "",
+            "",
+        ],
     ];
     for words in rows {
         let (status, _, left) = run_words(rt.alloc(), words.as_slice())?;

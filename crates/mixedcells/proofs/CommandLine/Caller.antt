@@ -1,5 +1,5 @@
 -- What a caller of `clap` has of the law.
-use Rattle.std.proofs.Common.{◌≡◌, List, Option, Some, ap, ap₂, ◌∙◌, sym, refl, true}
+use Rattle.std.proofs.Common.{◌≡◌, List, Option, Some, ap, ◌∙◌, sym, true}
 use Rattle.clap.specs.Walk.{Text, Row}
 use Rattle.clap.specs.Takes.{takes}
 use Rattle.clap.specs.Simple.{App, subcommand_of}

@@ -1,10 +1,9 @@
 -- The right shapes of `make`, each with what `clap` reads.
-use Rattle.std.proofs.Common.{◌≡◌, ℕ, List, [], ◌∷◌, ◌++◌, ◌==◌, ◌&&◌, codes, Bool, true, false, refl, Option, Some, None, ap, ◌∙◌, sym, subst, fold, is_some}
+use Rattle.std.proofs.Common.{◌≡◌, ℕ, List, [], ◌∷◌, ◌++◌, ◌==◌, ◌&&◌, codes, Bool, true, false, refl, Some, None, ap, ◌∙◌, sym, subst, fold, is_some}
 use Rattle.std.specs.List.{list_all}
-use Rattle.clap.specs.Walk.{Text, Row, Walk, walked, walk, walk_from, nothing_held, idle, option, settled_rows, used, finished}
+use Rattle.clap.specs.Walk.{Text, Walk, walked, walk, walk_from, nothing_held, idle, option, settled_rows, used, finished}
 use Rattle.clap.specs.Simple.{built, names_of, is_simple, entered, subcommand_of}
 use Rattle.clap.specs.Takes.{takes, turn_passes, walk_passes, level_passes, settle_passes, default_passes, is_valid, entered_passes}
-use Rattle.clap.proofs.OnLiterals.{clap_on_literals}
 use Rattle.mixedcells.specs.CommandLine.{top}
 use Rattle.mixedcells.specs.Reading.{Read, read, read_make}
 use Rattle.mixedcells.proofs.CommandLine.Steps.{leaf, at, seed_rule, above2, above3, above4, above5, above6, cyclic_after_seed, cyclic_after_seed_passes, cyclic_first, cyclic_first_passes, joined_after_family, joined_after_family_passes, joined_after_m, joined_after_m_passes, joined_after_n, joined_after_n_passes, joined_after_none, joined_after_none_passes, joined_after_side, joined_after_side_passes, m_after_joined, m_after_joined_passes, m_after_seed, m_after_seed_passes, m_word, m_word_passes, n_after_joined, n_after_joined_passes, n_after_seed, n_after_seed_passes, n_word, n_word_passes, scatter_after_seed, scatter_after_seed_passes, scatter_first, scatter_first_passes, seed_after_family, seed_after_family_passes, seed_after_m, seed_after_m_passes, seed_after_n, seed_after_n_passes, seed_after_none, seed_after_none_passes, seed_after_side, seed_after_side_passes, seed_value, seed_value_passes, side_after_joined, side_after_joined_passes, side_after_seed, side_after_seed_passes, side_word, side_word_passes, stops2, stops3, stops4, stops5, stops6}

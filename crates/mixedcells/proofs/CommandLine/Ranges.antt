@@ -1,5 +1,5 @@
 -- The numbers of a family that words name are in their limits.
-use Rattle.std.proofs.Common.{◌≡◌, ◌&&◌, ℕ, ◌+◌, ◌^◌, ◌≤◌, Bool, true, false, List, [], ◌∷◌, ◌++◌, refl, subst, codes, arith, Option, Some, None, option_map, option_and_then, IfSome, take, drop, length}
+use Rattle.std.proofs.Common.{◌≡◌, ◌&&◌, ℕ, ◌+◌, ◌^◌, ◌≤◌, Bool, true, false, List, [], ◌∷◌, ◌++◌, refl, subst, codes, arith, Option, Some, None, option_map, option_and_then, IfSome, take, drop}
 use Rattle.std.specs.Prelude.{if◌then◌else◌, nat_le}
 use Rattle.std.specs.Str.{bytes_eq}
 use Rattle.std.specs.Str.Parse.{digits_value}
@@ -11,7 +11,7 @@ use Rattle.mixedcells.specs.declared.words.meaning.Family.{Family}
 use Rattle.mixedcells.specs.declared.words.meaning.Family.TheVariants as family
 use Rattle.mixedcells.specs.declared.words.meaning.Meaning.{Meaning}
 use Rattle.mixedcells.specs.declared.words.meaning.Meaning.TheVariants as meaning
-use Rattle.mixedcells.specs.Words.{is_number, number, searchers, scatter_of, scatter, cyclic, family_of, seed_of, making, after, made_by_two, made_of, made, seed_place, alone, meaning_after, meaning_of, built, Means}
+use Rattle.mixedcells.specs.Words.{is_number, number, searchers, scatter_of, scatter, cyclic, family_of, seed_of, making, after, made_by_two, made_of, seed_place, alone, meaning_of, built, Means}
 use Rattle.mixedcells.specs.Families.{IsInLimits, IsFit}
 
 abbrev IsWithin : Meaning → Type 0

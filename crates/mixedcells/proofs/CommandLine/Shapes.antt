@@ -1,11 +1,11 @@
 -- What `clap` does with words of a right shape.
-use Rattle.std.proofs.Common.{◌≡◌, ℕ, List, [], ◌∷◌, ◌++◌, ◌==◌, codes, true, false, refl, Option, Some, None, option_map}
-use Rattle.clap.specs.Walk.{Text, Row, first_of}
+use Rattle.std.proofs.Common.{◌≡◌, ℕ, [], ◌∷◌, ◌++◌, ◌==◌, codes, true, false, refl, Some, None}
+use Rattle.clap.specs.Walk.{Text}
 use Rattle.clap.specs.Takes.{takes}
 use Rattle.clap.specs.Simple.{subcommand_of}
 use Rattle.clap.proofs.OnLiterals.{clap_on_literals}
 use Rattle.mixedcells.specs.CommandLine.{top}
-use Rattle.mixedcells.specs.Reading.{Read, read, read_searchers, read_make}
+use Rattle.mixedcells.specs.Reading.{read, read_searchers}
 
 pub plain_taken : takes top (codes "plain" ∷ []) ≡ true
 unfolding clap_on_literals

@@ -1,10 +1,8 @@
 -- `make`, a word a step.
-use Rattle.std.proofs.Common.{◌≡◌, ℕ, List, [], ◌∷◌, ◌++◌, ◌==◌, ◌+◌, codes, Bool, true, false, refl, Option, Some, None, option_map, unwrap_or}
-use Rattle.std.specs.Option.{option_map_or}
-use Rattle.std.specs.Str.{bytes_eq}
-use Rattle.clap.specs.Walk.{Text, Row, Rule, Walk, walked, walk, walk_from, nothing_held, Held, Waiting, idle, option, settled_rows, used, has_row, arg_by_long}
+use Rattle.std.proofs.Common.{◌≡◌, ℕ, List, [], ◌∷◌, ◌++◌, ◌==◌, codes, Bool, true, false, refl, Option, Some, None, unwrap_or}
+use Rattle.clap.specs.Walk.{Text, Row, Rule, Walk, walked, walk, nothing_held, Waiting, idle, option, settled_rows, used, has_row, arg_by_long}
 use Rattle.clap.specs.Simple.{Shape, built, names_of, new_rule}
-use Rattle.clap.specs.Takes.{takes, turn_passes, level_passes, settle_passes}
+use Rattle.clap.specs.Takes.{turn_passes, level_passes, settle_passes}
 use Rattle.clap.proofs.OnLiterals.{clap_on_literals}
 use Rattle.mixedcells.specs.CommandLine.{top}
 

@@ -1,11 +1,10 @@
 -- Lists of words, by places and lengths.
-use Rattle.std.proofs.Common.{◌≡◌, ◌≢◌, ◌∙◌, ℕ, zero, suc, ◌+◌, ◌<◌, ◌≤◌, Bool, true, false, List, [], ◌∷◌, ◌++◌, length, drop, refl, sym, ap, ap₂, subst, arith, Option, Some, None, option_map, option_and_then, IsTrue, slice_index_or, codes}
-use Rattle.std.specs.Prelude.{if◌then◌else◌, MatchOption}
-use Rattle.std.specs.Str.{bytes_eq}
+use Rattle.std.proofs.Common.{◌≡◌, ◌≢◌, false, List, [], ◌∷◌, length, refl, sym, subst, arith, Option, Some, None, option_map, option_and_then, IsTrue}
+use Rattle.std.specs.Prelude.{MatchOption}
 use Rattle.std.specs.Box.{box_value}
 use Rattle.clap.specs.Walk.{Text, Row, rows_of}
 use Rattle.clap.specs.Matches.{found_of, subcommand_name_of}
-use Rattle.clap.specs.Simple.{subcommand_rows, subcommand_rows_of}
+use Rattle.clap.specs.Simple.{subcommand_rows_of}
 use Rattle.clap.specs.declared.parser.matches.ArgMatches.{ArgMatches}
 use Rattle.clap.specs.declared.parser.matches.ArgMatches.TheViews.{out-ArgMatches, out-SubCommand}
 use Rattle.mixedcells.specs.declared.words.Command.{Command}

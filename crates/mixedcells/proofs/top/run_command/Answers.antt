@@ -1,4 +1,4 @@
-use Rattle.std.proofs.Common.{◌≡◌, ◌∙◌, sym, rules}
+use Rattle.std.proofs.Common.{◌≡◌, ◌∙◌, rules}
 use Rattle.mixedcells.specs.Answers.{IsReply}
 use Rattle.mixedcells.proofs.Ended.{long_written, long_cut, reply_as, reply_written, reply_cut}
 use Rattle.mixedcells.proofs.top.run_command.Goals as goal

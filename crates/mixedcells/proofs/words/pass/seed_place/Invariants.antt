@@ -1,4 +1,4 @@
-use Rattle.std.proofs.Common.{length, ◌-◌, ◌≡◌, ◌+◌, ◌≤◌, map, drop, string_bytes, ℕ}
+use Rattle.std.proofs.Common.{length, ◌-◌, ◌≡◌, ◌+◌, ◌≤◌, map, drop, string_bytes}
 use Rattle.mixedcells.specs.Words as spec
 use Rattle.mixedcells.proofs.words.pass.seed_place.Given as goal
 
