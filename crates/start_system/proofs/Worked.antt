@@ -1,2 +1,4 @@
 -- worked problems meet the premises of the laws
 mod ThreePoints
+mod TieFree
+mod AllMixed
