@@ -2,3 +2,6 @@
 mod ThreePoints
 mod TieFree
 mod AllMixed
+mod OneSupport
+mod LonePoint
+mod TwoPoints
