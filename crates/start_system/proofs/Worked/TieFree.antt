@@ -25,8 +25,7 @@ one_of c d e k third = elim (ℕ_discrete k c) [ yes p ↦ inl p | no p ↦ elim
 one_two : Untied 1 2
 unfolding Untied
 one_two = untied_by 3 points three_well 1 2 (over 0 (pos 2) (pos 0)) (refl, (((refl, tt), refl), tt)) (3 ∷ 4 ∷ 5 ∷ [])
-    (λ k f. one_of 3 4 5 k (λ n i. let p = f.0 in let q = f.1 in let r = f.2 in let s = f.3 in omega (arith, p, q, r, s, n, i)))
-    (
+    (λ k f. one_of 3 4 5 k (λ n i. let p = f.0 in let q = f.1 in let r = f.2 in let s = f.3 in omega (arith, p, q, r, s, n, i))) (
       ((λ q x o y z n. omega (arith, ints, o, y, z)), ((λ q x o y z n. omega (arith, ints, o, y, z)), tt)),
       (((λ q x o y z n. omega (arith, ints, o, y, z)), tt), (tt, tt)),
     )
@@ -36,8 +35,7 @@ one_two = untied_by 3 points three_well 1 2 (over 0 (pos 2) (pos 0)) (refl, (((r
 one_three : Untied 1 3
 unfolding Untied
 one_three = untied_by 3 points three_well 1 3 (over 0 (pos 0) (pos 0)) (refl, (((refl, tt), refl), tt)) (2 ∷ 4 ∷ 5 ∷ [])
-    (λ k f. one_of 2 4 5 k (λ n i. let p = f.0 in let q = f.1 in let r = f.2 in let s = f.3 in omega (arith, p, q, r, s, n, i)))
-    (
+    (λ k f. one_of 2 4 5 k (λ n i. let p = f.0 in let q = f.1 in let r = f.2 in let s = f.3 in omega (arith, p, q, r, s, n, i))) (
       ((λ q x o y z n. omega (arith, ints, o, y, z)), ((λ q x o y z n. omega (arith, ints, o, y, z)), tt)),
       (((λ q x o y z n. let w = n 2 (omega arith, omega arith, (λ e. omega (arith, e)), (λ e. omega (arith, e))) in omega (arith, ints, o, y, z, w)), tt), (tt, tt)),
     )
@@ -47,8 +45,7 @@ one_three = untied_by 3 points three_well 1 3 (over 0 (pos 0) (pos 0)) (refl, ((
 one_five : Untied 1 5
 unfolding Untied
 one_five = untied_by 3 points three_well 1 5 (over 2 (pos 0) (negsuc 0)) (refl, (((refl, tt), refl), tt)) (2 ∷ 3 ∷ 4 ∷ [])
-    (λ k f. one_of 2 3 4 k (λ n i. let p = f.0 in let q = f.1 in let r = f.2 in let s = f.3 in omega (arith, p, q, r, s, n, i)))
-    (
+    (λ k f. one_of 2 3 4 k (λ n i. let p = f.0 in let q = f.1 in let r = f.2 in let s = f.3 in omega (arith, p, q, r, s, n, i))) (
       ((λ q x o y z n. omega (arith, ints, o, y, z)), ((λ q x o y z n. omega (arith, ints, o, y, z)), tt)),
       (((λ q x o y z n. let w = n 2 (omega arith, omega arith, (λ e. omega (arith, e)), (λ e. omega (arith, e))) in omega (arith, ints, o, y, z, w)), tt), (tt, tt)),
     )
@@ -57,8 +54,7 @@ one_five = untied_by 3 points three_well 1 5 (over 2 (pos 0) (negsuc 0)) (refl, 
 two_three : Untied 2 3
 unfolding Untied
 two_three = untied_by 3 points three_well 2 3 (over 0 (negsuc 0) (pos 0)) (refl, (((refl, tt), refl), tt)) (1 ∷ 4 ∷ 5 ∷ [])
-    (λ k f. one_of 1 4 5 k (λ n i. let p = f.0 in let q = f.1 in let r = f.2 in let s = f.3 in omega (arith, p, q, r, s, n, i)))
-    (
+    (λ k f. one_of 1 4 5 k (λ n i. let p = f.0 in let q = f.1 in let r = f.2 in let s = f.3 in omega (arith, p, q, r, s, n, i))) (
       ((λ q x o y z n. omega (arith, ints, o, y, z)), ((λ q x o y z n. omega (arith, ints, o, y, z)), tt)),
       (((λ q x o y z n. omega (arith, ints, o, y, z)), tt), (tt, tt)),
     )
@@ -67,8 +63,7 @@ two_three = untied_by 3 points three_well 2 3 (over 0 (negsuc 0) (pos 0)) (refl,
 two_four : Untied 2 4
 unfolding Untied
 two_four = untied_by 3 points three_well 2 4 (over 0 (pos 2) (pos 1)) (refl, (((refl, tt), refl), tt)) (1 ∷ 3 ∷ 5 ∷ [])
-    (λ k f. one_of 1 3 5 k (λ n i. let p = f.0 in let q = f.1 in let r = f.2 in let s = f.3 in omega (arith, p, q, r, s, n, i)))
-    (
+    (λ k f. one_of 1 3 5 k (λ n i. let p = f.0 in let q = f.1 in let r = f.2 in let s = f.3 in omega (arith, p, q, r, s, n, i))) (
       ((λ q x o y z n. omega (arith, ints, o, y, z)), ((λ q x o y z n. omega (arith, ints, o, y, z)), tt)),
       (((λ q x o y z n. omega (arith, ints, o, y, z)), tt), (tt, tt)),
     )
@@ -77,8 +72,7 @@ two_four = untied_by 3 points three_well 2 4 (over 0 (pos 2) (pos 1)) (refl, (((
 two_five : Untied 2 5
 unfolding Untied
 two_five = untied_by 3 points three_well 2 5 (over 1 (negsuc 1) (negsuc 0)) (refl, (((refl, tt), refl), tt)) (1 ∷ 3 ∷ 4 ∷ [])
-    (λ k f. one_of 1 3 4 k (λ n i. let p = f.0 in let q = f.1 in let r = f.2 in let s = f.3 in omega (arith, p, q, r, s, n, i)))
-    (
+    (λ k f. one_of 1 3 4 k (λ n i. let p = f.0 in let q = f.1 in let r = f.2 in let s = f.3 in omega (arith, p, q, r, s, n, i))) (
       ((λ q x o y z n. omega (arith, ints, o, y, z)), ((λ q x o y z n. omega (arith, ints, o, y, z)), tt)),
       (((λ q x o y z n. omega (arith, ints, o, y, z)), tt), (tt, tt)),
     )
@@ -88,8 +82,7 @@ two_five = untied_by 3 points three_well 2 5 (over 1 (negsuc 1) (negsuc 0)) (ref
 three_four : Untied 3 4
 unfolding Untied
 three_four = untied_by 3 points three_well 3 4 (over 2 (pos 0) (pos 1)) (refl, (((refl, tt), refl), tt)) (1 ∷ 2 ∷ 5 ∷ [])
-    (λ k f. one_of 1 2 5 k (λ n i. let p = f.0 in let q = f.1 in let r = f.2 in let s = f.3 in omega (arith, p, q, r, s, n, i)))
-    (
+    (λ k f. one_of 1 2 5 k (λ n i. let p = f.0 in let q = f.1 in let r = f.2 in let s = f.3 in omega (arith, p, q, r, s, n, i))) (
       ((λ q x o y z n. omega (arith, ints, o, y, z)), ((λ q x o y z n. let w = n 2 (omega arith, omega arith, (λ e. omega (arith, e)), (λ e. omega (arith, e))) in omega (arith, ints, o, y, z, w)), tt)),
       (((λ q x o y z n. omega (arith, ints, o, y, z)), tt), (tt, tt)),
     )
@@ -99,8 +92,7 @@ three_four = untied_by 3 points three_well 3 4 (over 2 (pos 0) (pos 1)) (refl, (
 four_five : Untied 4 5
 unfolding Untied
 four_five = untied_by 3 points three_well 4 5 (over 0 (pos 0) (pos 0)) (refl, (((refl, tt), refl), tt)) (1 ∷ 2 ∷ 3 ∷ [])
-    (λ k f. one_of 1 2 3 k (λ n i. let p = f.0 in let q = f.1 in let r = f.2 in let s = f.3 in omega (arith, p, q, r, s, n, i)))
-    (
+    (λ k f. one_of 1 2 3 k (λ n i. let p = f.0 in let q = f.1 in let r = f.2 in let s = f.3 in omega (arith, p, q, r, s, n, i))) (
       ((λ q x o y z n. omega (arith, ints, o, y, z)), ((λ q x o y z n. let w = n 2 (omega arith, omega arith, (λ e. omega (arith, e)), (λ e. omega (arith, e))) in omega (arith, ints, o, y, z, w)), tt)),
       (((λ q x o y z n. omega (arith, ints, o, y, z)), tt), (tt, tt)),
     )
