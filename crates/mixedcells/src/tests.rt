@@ -348,20 +348,18 @@ fn check_takes_no_further_word(rt: HostRuntime) -> Result<(), Fail> {
     Ok(())
 }
 
-// The words of a row; the empty ones at its end are none.
-fn words_of(alloc: Global, row: &[&str]) -> Result<Vec<String>, Fail> {
+// The words of a line.
+fn words_of(alloc: Global, line: &str) -> Result<Vec<String>, Fail> {
     let mut words = Vec::new(alloc);
-    for text in row {
-        if !text.is_empty() {
-            words.push(String::from_str(alloc, text)?)?;
-        }
+    for text in line.split_whitespace() {
+        words.push(String::from_str(alloc, text)?)?;
     }
     Ok(words)
 }
 
-// The status of a run of a row's words, what it wrote, and how many bytes of five it left in the source.
-fn run_words(alloc: Global, row: &[&str]) -> Result<(u8, Vec<u8>, usize), Fail> {
-    let words = words_of(alloc, row)?;
+// The status of a run of a line's words, what it wrote, and how many bytes of five it left in the source.
+fn run_line(alloc: Global, line: &str) -> Result<(u8, Vec<u8>, usize), Fail> {
+    let words = words_of(alloc, line)?;
     let mut source = SteadySource::new(b"dim 1".to_vec(alloc)?);
     let Ok(mut sink) = MemorySink::new(alloc, 65_536, 65_536, Vec::new(alloc)) else {
         return Err(Fail::from("out of memory"));
@@ -375,25 +373,25 @@ fn run_words(alloc: Global, row: &[&str]) -> Result<(u8, Vec<u8>, usize), Fail> 
 #[test]
 fn words_that_mean_nothing(rt: HostRuntime) -> Result<(), Fail> {
     let rows = [
-        ["", "", "", "", "", "", ""],
-        ["list", "--searchers", "0", "", "", "", ""],
-        ["list", "--searchers", "65", "", "", "", ""],
-        ["list", "extra", "", "", "", "", ""],
-        ["make", "scatter", "1", "3", "1", "", ""],
-        ["help", "", "", "", "", "", ""],
-        ["-h", "", "", "", "", "", ""],
-        ["--help", "", "", "", "", "", ""],
-        ["--version", "", "", "", "", "", ""],
-        ["--", "", "", "", "", "", ""],
-        ["--", "plain", "", "", "", "", ""],
-        ["plain", "--", "", "", "", "", ""],
-        ["plai", "", "", "", "", "", ""],
-        ["Plain", "", "", "", "", "", ""],
-        ["check", "extra", "", "", "", "", ""],
-        ["make", "", "", "", "", "", ""],
+        "",
+        "list --searchers 0",
+        "list --searchers 65",
+        "list extra",
+        "make scatter 1 3 1",
+        "help",
+        "-h",
+        "--help",
+        "--version",
+        "--",
+        "-- plain",
+        "plain --",
+        "plai",
+        "Plain",
+        "check extra",
+        "make",
     ];
-    for words in rows {
-        let (status, written, left) = run_words(rt.alloc(), words.as_slice())?;
+    for line in rows {
+        let (status, written, left) = run_line(rt.alloc(), line)?;
         assert_eq!(rt; status, 2);
         assert_eq!(rt; written.as_slice(), b"usage\n".as_slice());
         assert_eq!(rt; left, 5);
@@ -404,33 +402,25 @@ fn words_that_mean_nothing(rt: HostRuntime) -> Result<(), Fail> {
 #[test]
 fn words_of_make_that_mean_nothing(rt: HostRuntime) -> Result<(), Fail> {
     let rows = [
-        ["make", "cyclic", "", "", "", "", ""],
-        ["make", "cyclic", "1", "", "", "", ""],
-        ["make", "cyclic", "17", "", "", "", ""],
-        ["make", "cyclic", "+5", "", "", "", ""],
-        ["make", "cyclic", "000000000000000000005", "", "", "", ""],
-        ["make", "cyclic", "5", "6", "", "", ""],
-        ["make", "--", "cyclic", "5", "", "", ""],
-        ["make", "cyclic", "5", "--", "", "", ""],
-        ["make", "cyclic", "5", "--see", "1", "", ""],
-        ["make", "cyclic", "5", "-s", "1", "", ""],
-        ["make", "cyclic", "5", "--seed", "", "", ""],
-        ["make", "cyclic", "5", "--seed", "-1", "", ""],
-        ["make", "cyclic", "5", "--seed=", "", "", ""],
-        [
-            "make",
-            "cyclic",
-            "5",
-            "--seed",
-            "18446744073709551616",
-            "",
-            "",
-        ],
-        ["make", "--seed", "1", "cyclic", "5", "--seed", "1"],
-        ["make", "scatter", "2", "5", "1", "", ""],
+        "make cyclic",
+        "make cyclic 1",
+        "make cyclic 17",
+        "make cyclic +5",
+        "make cyclic 000000000000000000005",
+        "make cyclic 5 6",
+        "make -- cyclic 5",
+        "make cyclic 5 --",
+        "make cyclic 5 --see 1",
+        "make cyclic 5 -s 1",
+        "make cyclic 5 --seed",
+        "make cyclic 5 --seed -1",
+        "make cyclic 5 --seed=",
+        "make cyclic 5 --seed 18446744073709551616",
+        "make --seed 1 cyclic 5 --seed 1",
+        "make scatter 2 5 1",
     ];
-    for words in rows {
-        let (status, written, left) = run_words(rt.alloc(), words.as_slice())?;
+    for line in rows {
+        let (status, written, left) = run_line(rt.alloc(), line)?;
         assert_eq!(rt; status, 2);
         assert_eq!(rt; written.as_slice(), b"usage\n".as_slice());
         assert_eq!(rt; left, 5);
@@ -440,34 +430,18 @@ fn words_of_make_that_mean_nothing(rt: HostRuntime) -> Result<(), Fail> {
 
 #[test]
 fn make_takes_its_option_anywhere(rt: HostRuntime) -> Result<(), Fail> {
-    let (_, want, _) = run_words(rt.alloc(), &["make", "cyclic", "5", "--seed", "7"])?;
+    let (_, want, _) = run_line(rt.alloc(), "make cyclic 5 --seed 7")?;
     let rows = [
-        ["make", "cyclic", "5", "--seed=7", "", "", ""],
-        ["make", "cyclic", "--seed", "7", "5", "", ""],
-        ["make", "cyclic", "--seed=7", "5", "", "", ""],
-        ["make", "--seed", "7", "cyclic", "5", "", ""],
-        ["make", "--seed=7", "cyclic", "5", "", "", ""],
-        [
-            "make",
-            "cyclic",
-            "005",
-            "--seed=00000000000000000007",
-            "",
-            "",
-            "",
-        ],
-        [
-            "make",
-            "--seed",
-            "07",
-            "cyclic",
-            "00000000000000000005",
-            "",
-            "",
-        ],
+        "make cyclic 5 --seed=7",
+        "make cyclic --seed 7 5",
+        "make cyclic --seed=7 5",
+        "make --seed 7 cyclic 5",
+        "make --seed=7 cyclic 5",
+        "make cyclic 005 --seed=00000000000000000007",
+        "make --seed 07 cyclic 00000000000000000005",
     ];
-    for words in rows {
-        let (status, written, left) = run_words(rt.alloc(), words.as_slice())?;
+    for line in rows {
+        let (status, written, left) = run_line(rt.alloc(), line)?;
         assert_eq!(rt; status, 0);
         assert_eq!(rt; written.as_slice(), want.as_slice());
         assert_eq!(rt; left, 5);
@@ -477,12 +451,9 @@ fn make_takes_its_option_anywhere(rt: HostRuntime) -> Result<(), Fail> {
 
 #[test]
 fn one_scattered_point(rt: HostRuntime) -> Result<(), Fail> {
-    let rows = [
-        ["make", "scatter", "1", "1", "0", "--seed", "1"],
-        ["make", "scatter", "1", "1", "0", "", ""],
-    ];
-    for words in rows {
-        let (status, written, left) = run_words(rt.alloc(), words.as_slice())?;
+    let rows = ["make scatter 1 1 0 --seed 1", "make scatter 1 1 0"];
+    for line in rows {
+        let (status, written, left) = run_line(rt.alloc(), line)?;
         assert_eq!(rt; status, 0);
         assert_eq!(rt;
             written.as_slice(),
@@ -496,22 +467,14 @@ fn one_scattered_point(rt: HostRuntime) -> Result<(), Fail> {
 #[test]
 fn the_least_and_the_greatest_numbers(rt: HostRuntime) -> Result<(), Fail> {
     let rows = [
-        ["make", "cyclic", "2", "", "", "", ""],
-        ["make", "cyclic", "16", "", "", "", ""],
-        ["make", "scatter", "2", "4", "1", "", ""],
-        ["make", "cyclic", "5", "--seed", "0", "", ""],
-        [
-            "make",
-            "cyclic",
-            "5",
-            "--seed=18446744073709551615",
-            "",
-            "",
-            "",
-        ],
+        "make cyclic 2",
+        "make cyclic 16",
+        "make scatter 2 4 1",
+        "make cyclic 5 --seed 0",
+        "make cyclic 5 --seed=18446744073709551615",
     ];
-    for words in rows {
-        let (status, _, left) = run_words(rt.alloc(), words.as_slice())?;
+    for line in rows {
+        let (status, _, left) = run_line(rt.alloc(), line)?;
         assert_eq!(rt; status, 0);
         assert_eq!(rt; left, 5);
     }
@@ -520,7 +483,7 @@ fn the_least_and_the_greatest_numbers(rt: HostRuntime) -> Result<(), Fail> {
 
 #[test]
 fn plain_lists_what_make_writes(rt: HostRuntime) -> Result<(), Fail> {
-    let (status, made, _) = run_words(rt.alloc(), &["make", "cyclic", "3", "--seed", "1"])?;
+    let (status, made, _) = run_line(rt.alloc(), "make cyclic 3 --seed 1")?;
     assert_eq!(rt; status, 0);
     let (status, listing) = run(rt.alloc(), "plain", &made)?;
     assert_eq!(rt; status, 0);
