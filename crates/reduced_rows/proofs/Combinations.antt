@@ -45,7 +45,7 @@ spans_mix rows u v w g a b n s t h = record {
 pub spans_scaled : (rows : List (List ℤ)) (u w : ℕ → ℤ) (g a : ℤ) → g ≢ pos 0 → Spans rows u → ((e : ℕ) → g *ℤ w e ≡ a *ℤ u e) → Spans rows w
 spans_scaled rows u w g a n s h = spans_mix rows u u w g a (pos 0) n s s (λ e. h e ∙ omega (arith, ints))
 
-spans_nothing : (rows : List (List ℤ)) → Spans rows (λ e. pos 0)
+pub spans_nothing : (rows : List (List ℤ)) → Spans rows (λ e. pos 0)
 spans_nothing rows = record { by = pos 1; other = (λ e. omega (arith, ints, e)); coefficients = []; is = λ e. refl }
 
 span_here : (row : List ℤ) (rows : List (List ℤ)) → InSpan (row ∷ rows) row
@@ -65,7 +65,7 @@ pub each_self : (rows : List (List ℤ)) → Each rows (InSpan rows)
 each_self [] = tt
 each_self (row ∷ rows) = (span_here row rows, each_weaken (InSpan rows) (InSpan (row ∷ rows)) rows (λ r s. span_later row rows (at r) s) (each_self rows))
 
-combination : (others : List (List ℤ)) (cs : List ℤ) (rows : List (List ℤ)) → Each rows (InSpan others) → Spans others (λ e. weigh cs rows (λ row. at row e))
+pub combination : (others : List (List ℤ)) (cs : List ℤ) (rows : List (List ℤ)) → Each rows (InSpan others) → Spans others (λ e. weigh cs rows (λ row. at row e))
 combination others [] rows h = spans_nothing others
 combination others (c ∷ cs) [] h = spans_nothing others
 combination others (c ∷ cs) (row ∷ rows) h =

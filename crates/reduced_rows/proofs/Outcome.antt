@@ -63,7 +63,7 @@ content_negated (x ∷ xs) = ap₂ gcd_of (abs_neg x) (content_negated xs)
     abs_neg (pos (suc n)) = refl
     abs_neg (negsuc n) = refl
 
-small_signed : (k : ℕ) (row : List ℤ) → IsSmall row → IsSmall (signed k row)
+pub small_signed : (k : ℕ) (row : List ℤ) → IsSmall row → IsSmall (signed k row)
 small_signed k row h = sign_cases (at row k)
     (λ n. subst IsSmall (sym (signed_negative k row n)) (subst (λ c. c ≤ 1) (sym (content_negated row)) h))
     (λ z. subst IsSmall (sym (signed_positive k row (λ n. omega (arith, ints, z, n)))) h)
@@ -98,7 +98,7 @@ nothing_left : (rest : List (List ℤ)) → length rest ≡ 0 → rest ≡ []
 nothing_left [] e = refl
 nothing_left (r ∷ rest) e = absurd (omega (arith, e))
 
-small_all : (k : ℕ) (y : List ℤ) (rows : List (List ℤ)) → Each rows IsSmall → Each (map (cleaned k y) rows) IsSmall
+pub small_all : (k : ℕ) (y : List ℤ) (rows : List (List ℤ)) → Each rows IsSmall → Each (map (cleaned k y) rows) IsSmall
 small_all k y rows h = each_map IsSmall IsSmall (cleaned k y) rows (λ row s. small_cleaned k y row s) h
 
 kernel_means : (m width k : ℕ) (done rest : List (List ℤ)) → IsShaped width k done rest → pick k rest ≡ None → IsKernelOf (k + suc m) (done ++ rest) (kernel_of k m done)
@@ -152,7 +152,7 @@ elimination_means n width given c l =
     carried n width given rest (steps n 0 [] rest) (primitive_span given) (subst (λ i. Means i width rest (steps n 0 [] rest)) z m)
 
 -- a row with an entry other than zero and a small gcd has gcd 1
-one_content : (row : List ℤ) (j : ℕ) → pos 0 <ℤ at row j → IsSmall row → content row ≡ 1
+pub one_content : (row : List ℤ) (j : ℕ) → pos 0 <ℤ at row j → IsSmall row → content row ≡ 1
 one_content row j p s = by_content (content row) refl
   where
     by_content : (c : ℕ) → content row ≡ c → content row ≡ 1
