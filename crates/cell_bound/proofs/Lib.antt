@@ -1,0 +1,3 @@
+mod RowRanges
+mod Circuits
+mod CellWorkings

@@ -1,0 +1,11 @@
+pub mod Minors
+pub mod Directions
+pub mod Factors
+pub mod Columns
+pub mod Choosing
+pub mod Turns
+pub mod Bounded
+pub mod Fitting
+pub mod Ahead
+pub mod ByFactors
+pub mod BoundSteps
