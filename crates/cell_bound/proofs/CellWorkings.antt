@@ -2,7 +2,7 @@
 use Rattle.std.proofs.Common.{max, ◌≡◌, ℕ, zero, suc, ◌+◌, ◌*◌, ◌<◌, ◌≤◌, ◌^◌, ℤ, pos, ◌*ℤ◌, ◌-ℤ◌, unsigned_abs, List, [], ◌∷◌, length, Ok, arith, ap, sym, subst, ◌∙◌}
 use Rattle.std.proofs.Math.Nat.{le-max_right}
 use Rattle.std.proofs.lemmas.Nat.{mul-le}
-use Rattle.int_vectors.specs.Vectors.{Each, sub}
+use Rattle.int_vectors.specs.Vectors.{sub}
 use Rattle.int_vectors.specs.Bounds.{size}
 use Rattle.reduced_rows.specs.Steps.{OfLength, elimination}
 use Rattle.reduced_rows.specs.Denominators.{lcm_from, shares}
@@ -108,10 +108,13 @@ module _ (p : Problem) (cell : Cell) (front further : ℕ) (well : IsProblem p) 
     circuits_fit w j c at_j = (circuit_fits p cell j c front further well of fits (point_room front further p.supports cell j c w at_j).2).1 made e
 
   pub fits_whole : PointsBelow front further p cell → FitsWhole p cell
-  fits_whole w = (beyond.0, (λ made e.
-      let t = beyond.1 made e in
-      let circuits = circuits_fit made e w in
-      (((t.0, t.1 n (omega arith), t.1 (suc n) (omega arith)), walls_fit made e w, (λ v. circuits)), circuits)))
+  fits_whole w = (
+    beyond.0,
+    (λ made e.
+        let t = beyond.1 made e in
+        let circuits = circuits_fit made e w in
+        (((t.0, t.1 n (omega arith), t.1 (suc n) (omega arith)), walls_fit made e w, (λ v. circuits)), circuits)),
+  )
 
 pub cell_fits : CellFits
 cell_fits p cell front further well of fits w = fits_whole p cell front further well of fits w

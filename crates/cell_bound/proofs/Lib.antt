@@ -1,3 +1,6 @@
 mod RowRanges
 mod Circuits
 mod CellWorkings
+mod Apart
+mod SmallFiles
+mod Worked

@@ -1,5 +1,5 @@
 -- Bounds under which no number of a cell's working is too great: of one cell, and of all cells of a problem.
-use Rattle.std.specs.Prelude.{max, ℕ, ◌+◌, ◌*◌, ◌<◌, ◌≤◌, ◌^◌, List, [], ◌∷◌, length, ℤ, ◌-ℤ◌, unsigned_abs}
+use Rattle.std.specs.Prelude.{max, ℕ, ◌+◌, ◌*◌, ◌<◌, ◌≤◌, ◌^◌, List, [], ◌∷◌, length, ◌-ℤ◌, unsigned_abs}
 use Rattle.int_vectors.specs.Vectors.{sub}
 use Rattle.int_vectors.specs.Bounds.{size}
 use Rattle.reduced_rows.specs.CellRefusals.{FitsBeyond}
