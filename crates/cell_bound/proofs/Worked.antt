@@ -1,10 +1,10 @@
 -- The file of two squares is a small one.
 use Rattle.std.proofs.Common.{ℕ, zero, suc, ◌≤◌, [], ◌∷◌, Some, arith, ℤ, pos, ◌-ℤ◌, unsigned_abs}
 use Rattle.std.proofs.lemmas.Int.{ints}
-use Rattle.int_vectors.specs.Vectors.{Each, at}
+use Rattle.int_vectors.specs.Vectors.{at}
 use Rattle.cayley.specs.Files.{FilePoint, File}
 use Rattle.cayley.specs.Problems.Version.{version1}
-use Rattle.cell_bound.specs.Quiet.{IsQuiet}
+use Rattle.cell_bound.specs.Quiet.{IsNarrow, IsQuiet}
 
 abbrev at_height : ℕ → ℕ → ℤ → FilePoint
 at_height x y height = record { coordinates = pos x ∷ pos y ∷ []; height = height }
@@ -32,12 +32,13 @@ all_near a b p q = (
   (corners_near a b 1 0 p q (omega arith) (omega arith), (corners_near a b 0 1 p q (omega arith) (omega arith), (corners_near a b 1 1 p q (omega arith) (omega arith), tt))),
 )
 
+square_narrow : (g h i j : ℤ) → IsNarrow (at_height 0 0 g ∷ at_height 1 0 h ∷ at_height 0 1 i ∷ at_height 1 1 j ∷ [])
+square_narrow g h i j = (all_near 0 0 (omega arith) (omega arith), (all_near 1 0 (omega arith) (omega arith), (all_near 0 1 (omega arith) (omega arith), (all_near 1 1 (omega arith) (omega arith), tt))))
+
 pub quiet_squares : IsQuiet two_squares
-quiet_squares =
-    let square = (all_near 0 0 (omega arith) (omega arith), (all_near 1 0 (omega arith) (omega arith), (all_near 0 1 (omega arith) (omega arith), (all_near 1 1 (omega arith) (omega arith), tt)))) in
-    record {
-      dimension = omega arith;
-      narrow = (square, (square, tt));
-      heights = ((omega arith, (omega arith, (omega arith, (omega arith, tt)))), ((omega arith, (omega arith, (omega arith, (omega arith, tt)))), tt));
-      starts = ((omega arith, tt), ((omega arith, tt), tt));
-    }
+quiet_squares = record {
+  dimension = omega arith;
+  narrow = (square_narrow (pos 3) (pos 10) (pos 20) (pos 90), (square_narrow (pos 5) (pos 40) (pos 9) (pos 1), tt));
+  heights = ((omega arith, (omega arith, (omega arith, (omega arith, tt)))), ((omega arith, (omega arith, (omega arith, (omega arith, tt)))), tt));
+  starts = ((omega arith, tt), ((omega arith, tt), tt));
+}
