@@ -1,4 +1,4 @@
--- The parts of a pool: workers, passes, and how a deque's 64 parts are dealt to the seats.
+-- The parts of a pool: workers, passes, and how a deque's SEATS parts are dealt to the seats.
 use Rattle.std.specs.Prelude.{◌≡◌, ℕ, ◌-◌, ◌+◌, List, [], ◌∷◌, cond, ◌==◌, min, map, length, slice_set, None}
 use Rattle.std.specs.List.{All, flat_map, range_with_len}
 use Rattle.std.specs.Global.{Global}
@@ -6,6 +6,7 @@ use Rattle.crossbeam_deque.specs.Handles.{Pass, view, worker_view, worker_flavor
 use Rattle.crossbeam_deque.specs.declared.handles.Worker.{Worker}
 use Rattle.branch_pool.specs.declared.rule.PoolRule.{PoolRule}
 use Rattle.branch_pool.specs.declared.rule.SeatView.{SeatView}
+use Rattle.branch_pool.specs.declared.rule.TheConstants.{SEATS}
 use Rattle.branch_pool.specs.Rule.{view_of}
 use Rattle.branch_pool.specs.Seats.{DequeId}
 
@@ -60,7 +61,7 @@ one_if_upto k m = min 1 (m + 1 - k)
 
 -- the parts that the worker of deque k keeps when the rows 1 to m are dealt, and the next row as far as `at`
 abbrev pub keeps : ℕ → ℕ → ℕ → ℕ
-keeps m at k = (64 - m) + one_if_upto k m - cond (k == m + 1) 0 (one_if_upto k at)
+keeps m at k = (SEATS - m) + one_if_upto k m - cond (k == m + 1) 0 (one_if_upto k at)
 
 -- what the workers know then
 abbrev pub worker_views : {B : Type 0} → ℕ → ℕ → ℕ → ℕ → List (SeatView B)

@@ -4,6 +4,7 @@ use Rattle.std.specs.List.{All, flat_map, sum_by}
 use mathlib.Core.Option.{some}
 use lib.ListN.{get_elem?}
 use Rattle.branch_pool.specs.declared.rule.SeatView.{SeatView}
+use Rattle.branch_pool.specs.declared.rule.TheConstants.{SEATS}
 
 module _ {B : Type 0} where
   abbrev pub view_of : ℕ → ℕ → List B → List B → SeatView B
@@ -33,11 +34,11 @@ module _ {B : Type 0} where
   abbrev pub IsEmptyIfSpent : SeatView B → Type 0
   IsEmptyIfSpent v = v.parts ≡ 0 → IsEmpty v
 
-  -- what was offered is a permutation of what the deque holds together with what was taken. The views have 64 parts together, and the first,
+  -- what was offered is a permutation of what the deque holds together with what was taken. The views have SEATS parts together, and the first,
   -- which is the deque's own seat's, alone offers. Each that isn't spent carries the pool's number of seats; where it is 1, all but the first are empty
   pub record IsBalanced (items : List B) (views : List (SeatView B)) : Type 0 where
     pub kept : IsPermutation (offered_in views) (items ++ taken_in views)
-    pub whole : sum_by (λ v. v.parts) views ≡ 64
+    pub whole : sum_by (λ v. v.parts) views ≡ SEATS
     pub spent : All IsEmptyIfSpent views
     pub owner : All OffersNothing (drop 1 views)
     pub seats : ℕ

@@ -1,9 +1,10 @@
 -- What contracts see of a pool and of a seat.
-use Rattle.std.specs.Prelude.{◌≡◌, ℕ, ◌-◌, List, [], ◌∷◌, ◌++◌, map, length, slice_index_or, slice_set, IsPermutation}
+use Rattle.std.specs.Prelude.{◌≡◌, ℕ, ◌-◌, ◌+◌, List, [], ◌∷◌, ◌++◌, map, length, slice_index_or, slice_set, IsPermutation}
 use Rattle.std.specs.List.{All, flat_map, range_with_len}
 use Rattle.atomic_blocks.specs.Lent.{RowsId}
 use Rattle.std.specs.Global.{Global}
 use Rattle.branch_pool.specs.declared.rule.SeatView.{SeatView}
+use Rattle.branch_pool.specs.declared.rule.TheConstants.{SEATS}
 use Rattle.branch_pool.specs.Rule.{view_of}
 
 -- which deque it is
@@ -44,7 +45,7 @@ module _ {B : Type 0} where
 
   -- what the own deque's rule knows of a seat
   abbrev pub own_view : SeatData B → SeatView B
-  own_view s = view_of (length s.deques) (65 - length s.deques) s.offered (taken_from s s.number)
+  own_view s = view_of (length s.deques) (SEATS + 1 - length s.deques) s.offered (taken_from s s.number)
 
   -- what the rule of the deque of another seat, k, knows of it
   abbrev pub other_view : SeatData B → ℕ → SeatView B

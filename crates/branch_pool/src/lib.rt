@@ -8,3 +8,4 @@ mod shared;
 mod tests;
 
 pub use pool::{Pool, Seat, Tally, Unclosed};
+pub use rule::SEATS;

@@ -21,7 +21,7 @@ type Own<B> = Worker<B, Global, SeatView<B>, PoolRule>;
 // What the other seats steal by.
 type Other<B> = Stealer<B, Global, SeatView<B>, PoolRule>;
 
-/// The deques of 1 to 64 seats, of which each seat takes from all. Contracts see which deques they are, that of seat 1 first.
+/// The deques of 1 to [`SEATS`](crate::SEATS) seats, of which each seat takes from all. Contracts see which deques they are, that of seat 1 first.
 #[derive(Drop)]
 pub struct Pool<B> {
     stealers: Vec<Other<B>>,
@@ -30,6 +30,7 @@ pub struct Pool<B> {
 impl<B> Model for Pool<B> {
     ghost use Rattle.std.specs.Prelude.{◌≡◌, ◌≤◌, map, length};
     ghost use Rattle.std.specs.List.{All};
+    ghost use Rattle.branch_pool.specs.declared.rule.TheConstants.{SEATS};
     ghost use Rattle.branch_pool.specs.Seats.{PoolData};
     ghost use Rattle.crossbeam_deque.specs.Handles.{stealer_deque, stealer_flavor};
 
@@ -37,7 +38,7 @@ impl<B> Model for Pool<B> {
 
     ghost view = { λ p. record { deques = map (λ s. stealer_deque s) p.stealers.items } };
 
-    ghost invariant = { λ p. All (λ s. stealer_flavor s ≡ 1) p.stealers.items × (1 ≤ length p.stealers.items) × (length p.stealers.items ≤ 64) };
+    ghost invariant = { λ p. All (λ s. stealer_flavor s ≡ 1) p.stealers.items × (1 ≤ length p.stealers.items) × (length p.stealers.items ≤ SEATS) };
 }
 
 /// One searcher's place at a pool, with a deque of its own. Contracts see its number from 1, the pool's deques, the list of what it offered, and
@@ -52,8 +53,9 @@ pub struct Seat<B> {
 }
 
 impl<B> Model for Seat<B> {
-    ghost use Rattle.std.specs.Prelude.{◌≡◌, List, ◌<◌, ◌≤◌, ◌-◌, ◌^◌, [], None, map, length, min, slice_index_or};
+    ghost use Rattle.std.specs.Prelude.{◌≡◌, List, ◌<◌, ◌≤◌, ◌-◌, ◌+◌, ◌^◌, [], None, map, length, min, slice_index_or};
     ghost use Rattle.std.specs.List.{All, flat_map};
+    ghost use Rattle.branch_pool.specs.declared.rule.TheConstants.{SEATS};
     ghost use Rattle.branch_pool.specs.Seats.{SeatData};
     ghost use Rattle.branch_pool.specs.Parts.{row, taken_with, IsOwner};
     ghost use Rattle.crossbeam_deque.specs.Handles.{worker_deque, worker_view};
@@ -62,7 +64,7 @@ impl<B> Model for Seat<B> {
 
     ghost view = { λ s. record { number = s.number; deques = map (λ p. (p.rows, p.heap)) s.passes.items; offered = (worker_view s.own).offered; taken = taken_with s.number (worker_view s.own).taken (map (λ p. p.me.view.client.taken) s.passes.items) } };
 
-    ghost invariant = { λ s. (1 ≤ s.number) × (s.number ≤ length s.passes.items) × (length s.passes.items ≤ 64) × IsOwner s.own × ((worker_view s.own).parts ≡ 65 - length s.passes.items)
+    ghost invariant = { λ s. (1 ≤ s.number) × (s.number ≤ length s.passes.items) × (length s.passes.items ≤ SEATS) × IsOwner s.own × ((worker_view s.own).parts ≡ SEATS + 1 - length s.passes.items)
         × (s.offered ≡ length (worker_view s.own).offered)
         × All (λ p. (p.me.hand ≡ None) × (p.me.spare ≡ None) × (p.me.view.client.offered ≡ [])) s.passes.items
         × (map (λ p. p.me.view.client.parts) s.passes.items ≡ row s.number (length s.passes.items))

@@ -5,8 +5,11 @@ use crossbeam_deque::protocol::{Join, Lesson, Outcome, Protocol, Split};
 use std::collections::LinkedList;
 use std::marker::{Brand, PhantomData};
 
-/// What a deque's rule keeps of one seat: how many seats the pool has, what this one offered to the deque and took from it, and how many of 64 parts it has. A view with all
-/// parts knows all that was offered and taken. Views exist in proofs alone.
+/// The greatest number of seats of a pool. The views of a deque have as many parts together.
+pub const SEATS: u32 = 64;
+
+/// What a deque's rule keeps of one seat: how many seats the pool has, what this one offered to the deque and took from it, and how many of the
+/// [`SEATS`] parts it has. A view with all parts knows all that was offered and taken. Views exist in proofs alone.
 pub struct SeatView<B> {
     pub seats: u64,
     pub parts: u64,
@@ -20,10 +23,11 @@ pub struct PoolRule;
 impl<B> Protocol<B, SeatView<B>> for PoolRule {
     ghost use Rattle.std.specs.Prelude.{[]};
     ghost use Rattle.branch_pool.specs.Rule.{view_of, IsBalanced};
+    ghost use Rattle.branch_pool.specs.declared.rule.TheConstants.{SEATS};
 
     ghost holds = { IsBalanced };
 
-    ghost first = { view_of 0 64 [] [] };
+    ghost first = { view_of 0 SEATS [] [] };
 
     ghost guest = { view_of 0 0 [] [] };
 }
@@ -114,6 +118,7 @@ pub struct Holding;
 
 impl<B> Lesson<B, SeatView<B>> for Holding {
     ghost use Rattle.std.specs.Prelude.{◌++◌, ◌≡◌, IsPermutation};
+    ghost use Rattle.branch_pool.specs.declared.rule.TheConstants.{SEATS};
 
-    ghost fact = { λ v items. v.parts ≡ 64 → IsPermutation v.offered (items ++ v.taken) };
+    ghost fact = { λ v items. v.parts ≡ SEATS → IsPermutation v.offered (items ++ v.taken) };
 }

@@ -43,27 +43,28 @@ pub enum Hand {
 }
 
 impl Hand {
+    /// Whether there is nothing in the hand.
     pub fn is_empty(&self) -> bool
         ensures { IsTrue result ↔ (self.now ≡ Hand.Empty) }
     {
         matches!(self, Hand::Empty)
     }
 
-    // Whether a branch is to be expanded.
+    /// Whether a branch is to be expanded.
     pub fn has_branch(&self) -> bool
         ensures { IsTrue result ↔ ((b : CoreBranch) × (self.now ≡ Hand.Branch b)) }
     {
         matches!(self, Hand::Branch(_))
     }
 
-    // Whether a child waits to be offered.
+    /// Whether a child waits to be offered.
     pub fn has_child(&self) -> bool
         ensures { IsTrue result ↔ ((b : CoreBranch) × (rest : Hand) × IsFirstChild self.now b rest) }
     {
         matches!(self, Hand::One(_) | Hand::Two(_, _))
     }
 
-    // Whether a cell is to be reported.
+    /// Whether a cell is to be reported.
     pub fn has_cell(&self) -> bool
         ensures { IsTrue result ↔ ((c : Pairs) × (self.now ≡ Hand.Cell c)) }
     {
@@ -71,7 +72,7 @@ impl Hand {
     }
 }
 
-// The hand that an expansion leaves.
+/// The hand that an expansion leaves.
 pub fn hand_of(outcome: CoreOutcome) -> Hand
     ensures { result ≡ hand_of outcome }
 {

@@ -12,12 +12,14 @@ use std::marker::Model;
 use std::mem;
 use wide_int::OutOfMemory;
 
-// What one searcher has.
+/// What one searcher has.
 #[derive(Drop)]
 pub struct Searcher {
-    // The oldest branch first.
+    /// The oldest branch first.
     pub deque: Vec<CoreBranch>,
+    /// What it has in its hand.
     pub hand: Hand,
+    /// The cells that it reported, in order.
     pub outs: Vec<Cell>,
 }
 
@@ -30,7 +32,7 @@ impl Model for Searcher {
 }
 
 impl Searcher {
-    // A searcher that has nothing.
+    /// A searcher that has nothing.
     pub fn idle(alloc: Global) -> Searcher
         ensures { result ≡ idle }
     {
@@ -41,7 +43,7 @@ impl Searcher {
         }
     }
 
-    // The branch goes to the back of the deque.
+    /// The branch goes to the back of the deque; it is lost where there is no memory.
     pub fn open(&mut self, branch: CoreBranch) -> Result<(), OutOfMemory>
         ensures { OnOk result (self.new ≡ record self.old { deque = self.old.deque ++ branch ∷ [] }) }
     {
@@ -51,7 +53,7 @@ impl Searcher {
         }
     }
 
-    // The newest branch goes to the hand.
+    /// The newest branch goes to the hand.
     pub fn claim(&mut self)
         requires { self.old.deque ≢ [] }
         ensures { (rest : List CoreBranch) × (b : CoreBranch) × (self.old.deque ≡ rest ++ b ∷ [])
@@ -62,7 +64,7 @@ impl Searcher {
         }
     }
 
-    // The oldest branch is given away.
+    /// The oldest branch is given away.
     pub fn give_oldest(&mut self) -> CoreBranch
         requires { self.old.deque ≢ [] }
         ensures { (rest : List CoreBranch) × (self.old.deque ≡ result ∷ rest) × (self.new ≡ record self.old { deque = rest }) }
@@ -70,19 +72,21 @@ impl Searcher {
         self.deque.remove(0)
     }
 
+    /// A branch that another searcher gave away goes to the hand.
     pub fn receive(&mut self, branch: CoreBranch)
         ensures { self.new ≡ record self.old { hand = Hand.Branch branch } }
     {
         self.hand = Hand::Branch(branch);
     }
 
+    /// The branch in the hand gives way to what it was expanded to.
     pub fn expand(&mut self, outcome: CoreOutcome)
         ensures { self.new ≡ record self.old { hand = hand_of outcome } }
     {
         self.hand = hand_of(outcome);
     }
 
-    // The first child that waits goes to the back of the deque.
+    /// The first child that waits goes to the back of the deque; where there is no memory, nothing changes.
     pub fn offer(&mut self) -> Result<(), OutOfMemory>
         requires { (b : CoreBranch) × (rest : Hand) × IsFirstChild self.old.hand b rest }
         ensures ok { OnOk result ((b : CoreBranch) × (rest : Hand) × IsFirstChild self.old.hand b rest
@@ -103,7 +107,7 @@ impl Searcher {
         Ok(())
     }
 
-    // The cell in the hand is reported.
+    /// The cell in the hand is reported; where there is no memory, nothing changes.
     pub fn report(&mut self) -> Result<(), OutOfMemory>
         requires { (c : Pairs) × (self.old.hand ≡ Hand.Cell c) }
         ensures ok { OnOk result ((c : Pairs) × (self.old.hand ≡ Hand.Cell c)

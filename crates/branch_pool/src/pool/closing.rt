@@ -2,6 +2,7 @@
 ghost use Rattle.std.specs.Prelude.{◌≡◌, ◌≤◌, ◌++◌, ◌-◌, ◌+◌, ◌^◌, [], IfOk, IfErr, IsPermutation, length, min, vec_capacity};
 ghost use Rattle.std.specs.List.Sorted.{IsNonDecreasingBy};
 ghost use Rattle.std.specs.List.{All, flat_map, sum_by};
+ghost use Rattle.branch_pool.specs.declared.rule.TheConstants.{SEATS};
 ghost use Rattle.branch_pool.specs.Seats.{IsSeatOf, AreAllSeats, all_taken, offered_by, taken_by};
 ghost use Rattle.branch_pool.specs.Parts.{Numbered};
 
@@ -79,7 +80,7 @@ fn in_order<B>(seats: &mut Vec<Seat<B>>)
 
 // How many branches the seats offered and took, the second for each seat up to its last value.
 fn counts<B>(seats: &Vec<Seat<B>>) -> (u128, u128)
-    requires { length seats.now.items ≤ 64 }
+    requires { length seats.now.items ≤ SEATS }
     ensures offered { result.0 ≡ sum_by (λ s. length s.offered) seats.now.items }
     ensures taken { result.1 ≡ sum_by (λ s. min (length (all_taken s)) (2 ^ 64 - 1)) seats.now.items }
 {
@@ -108,7 +109,7 @@ fn closed<B: Drop>(
     mut left: Vec<B>,
 ) -> Vec<B>
     requires seats { All (λ s. IsSeatOf pool.now s) seats.items × Numbered (λ k s. s.number ≡ k) 1 seats.items × (length seats.items ≡ length pool.now.deques) }
-    requires size { (1 ≤ length pool.now.deques) × (length pool.now.deques ≤ 64) }
+    requires size { (1 ≤ length pool.now.deques) × (length pool.now.deques ≤ SEATS) }
     requires empty { (workers.items ≡ []) × (rows.items ≡ []) × (left.items ≡ []) }
     requires space { (length seats.items ≤ vec_capacity workers) × (length seats.items ≤ vec_capacity rows) }
     requires room { length (offered_by seats.items) ≤ length (taken_by seats.items) + vec_capacity left }

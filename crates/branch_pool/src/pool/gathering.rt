@@ -2,6 +2,7 @@
 ghost use Rattle.std.specs.Prelude.{◌≡◌, ◌<◌, ◌≤◌, ◌++◌, ◌-◌, ◌+◌, [], reverse, IsPermutation, length, map, vec_capacity};
 ghost use Rattle.std.specs.List.{All, flat_map, sum_by};
 ghost use Rattle.crossbeam_deque.specs.Handles.{worker_deque, worker_view};
+ghost use Rattle.branch_pool.specs.declared.rule.TheConstants.{SEATS};
 ghost use Rattle.branch_pool.specs.Seats.{IsSeatOf, all_taken, taken_by};
 ghost use Rattle.branch_pool.specs.Parts.{Numbered, IsUsedRow, IsQuiet, added, own_offered, own_taken, own_parts, pass_taken, pass_parts, IsOwner};
 
@@ -12,7 +13,7 @@ use std::alloc::Global;
 
 // Takes all that a worker's deque has left, into a list with room for it.
 pub(super) fn drained<B: Drop>(mut own: Own<B>, left: &mut Vec<B>)
-    requires whole { IsOwner own × ((worker_view own).parts ≡ 64) }
+    requires whole { IsOwner own × ((worker_view own).parts ≡ SEATS) }
     requires room { length (worker_view own).offered + length left.old.items ≤ length (worker_view own).taken + vec_capacity left.old }
     ensures kept { IsPermutation ((worker_view own).offered ++ left.old.items) (left.new.items ++ (worker_view own).taken) }
     ensures room { vec_capacity left.new ≡ vec_capacity left.old }
@@ -39,10 +40,10 @@ pub(super) fn absorbed<B: Drop>(workers: &mut Vec<Own<B>>, mut passes: Vec<Pass<
 
 // All rows join, so that each worker has all parts of its deque.
 pub(super) fn joined<B: Drop>(workers: &mut Vec<Own<B>>, mut rows: Vec<Vec<Pass<B, SeatView<B>>>>)
-    requires size { (1 ≤ length workers.old.items) × (length workers.old.items ≤ 64) × (length rows.items ≡ length workers.old.items) }
-    requires workers { All (λ w. IsOwner w × (own_parts w ≡ 65 - length workers.old.items)) workers.old.items }
+    requires size { (1 ≤ length workers.old.items) × (length workers.old.items ≤ SEATS) × (length rows.items ≡ length workers.old.items) }
+    requires workers { All (λ w. IsOwner w × (own_parts w ≡ SEATS + 1 - length workers.old.items)) workers.old.items }
     requires rows { Numbered (λ k r. IsUsedRow (map (λ w. worker_deque w) workers.old.items) k r.items) 1 (reverse rows.items) }
-    ensures whole { All (λ w. IsOwner w × (own_parts w ≡ 64)) workers.new.items }
+    ensures whole { All (λ w. IsOwner w × (own_parts w ≡ SEATS)) workers.new.items }
     ensures offered { map own_offered workers.new.items ≡ map own_offered workers.old.items }
     ensures taken { IsPermutation (flat_map own_taken workers.old.items ++ flat_map (λ r. flat_map pass_taken r.items) rows.items) (flat_map own_taken workers.new.items) }
 {
@@ -53,9 +54,9 @@ pub(super) fn joined<B: Drop>(workers: &mut Vec<Own<B>>, mut rows: Vec<Vec<Pass<
 
 // No more was taken from a deque than was offered to it.
 pub(super) fn learned<B: Drop>(workers: &mut Vec<Own<B>>)
-    requires whole { All (λ w. IsOwner w × (own_parts w ≡ 64)) workers.old.items }
+    requires whole { All (λ w. IsOwner w × (own_parts w ≡ SEATS)) workers.old.items }
     ensures same { map (λ w. worker_view w) workers.new.items ≡ map (λ w. worker_view w) workers.old.items }
-    ensures whole { All (λ w. IsOwner w × (own_parts w ≡ 64) × (length (own_taken w) ≤ length (own_offered w))) workers.new.items }
+    ensures whole { All (λ w. IsOwner w × (own_parts w ≡ SEATS) × (length (own_taken w) ≤ length (own_offered w))) workers.new.items }
 {
     for at in 0..workers.len() {
         let _held = workers[at].len_as::<Holding>();
@@ -64,7 +65,7 @@ pub(super) fn learned<B: Drop>(workers: &mut Vec<Own<B>>)
 
 // Takes all that the deques have left.
 pub(super) fn emptied<B: Drop>(mut workers: Vec<Own<B>>, left: &mut Vec<B>)
-    requires whole { All (λ w. IsOwner w × (own_parts w ≡ 64) × (length (own_taken w) ≤ length (own_offered w))) workers.items }
+    requires whole { All (λ w. IsOwner w × (own_parts w ≡ SEATS) × (length (own_taken w) ≤ length (own_offered w))) workers.items }
     requires room { sum_by (λ w. length (own_offered w)) workers.items + length left.old.items ≤ sum_by (λ w. length (own_taken w)) workers.items + vec_capacity left.old }
     ensures { IsPermutation (flat_map own_offered workers.items ++ left.old.items) (left.new.items ++ flat_map own_taken workers.items) }
 {
@@ -83,7 +84,7 @@ pub(super) fn parted<B: Drop>(
     requires seats { All (λ s. IsSeatOf pool.now s) seats.items × Numbered (λ k s. s.number ≡ k) 1 seats.items × (length seats.items ≡ length pool.now.deques) }
     requires empty { (workers.items ≡ []) × (rows.items ≡ []) }
     requires room { (length seats.items ≤ vec_capacity workers) × (length seats.items ≤ vec_capacity rows) }
-    ensures workers { (map (λ w. worker_deque w) result.0.items ≡ pool.now.deques) × All (λ w. IsOwner w × (own_parts w ≡ 65 - length pool.now.deques)) result.0.items }
+    ensures workers { (map (λ w. worker_deque w) result.0.items ≡ pool.now.deques) × All (λ w. IsOwner w × (own_parts w ≡ SEATS + 1 - length pool.now.deques)) result.0.items }
     ensures rows { Numbered (λ k r. IsUsedRow pool.now.deques k r.items) 1 (reverse result.1.items) }
     ensures lengths { (length result.0.items ≡ length pool.now.deques) × (length result.1.items ≡ length pool.now.deques) }
     ensures offered { map (λ s. s.offered) seats.items ≡ map own_offered result.0.items }

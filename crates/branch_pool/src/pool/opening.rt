@@ -2,6 +2,7 @@
 ghost use Rattle.std.specs.Prelude.{◌≡◌, ◌<◌, ◌≤◌, ◌-◌, ◌+◌, [], IfOk, length, slice_index_or, map, vec_capacity, None, cond, ◌==◌};
 ghost use Rattle.std.specs.List.{All, range_with_len};
 ghost use Rattle.crossbeam_deque.specs.Handles.{view, IsPassOf, stealer_deque, stealer_flavor, worker_deque, worker_view, worker_flavor, worker_port};
+ghost use Rattle.branch_pool.specs.declared.rule.TheConstants.{SEATS};
 ghost use Rattle.branch_pool.specs.Rule.{view_of};
 ghost use Rattle.branch_pool.specs.Seats.{AreAllSeats, all_taken, fresh_seat, fresh_seats};
 ghost use Rattle.branch_pool.specs.Parts.{worker_views, pass_views, keeps, Numbered, IsRow, IsOwner};
@@ -14,9 +15,9 @@ use std::marker::Brand;
 use wide_int::OutOfMemory;
 
 impl<B: Drop> Pool<B> {
-    /// A pool with an empty deque for each of 1 to 64 seats, and the seats, from number 1 on.
+    /// A pool with an empty deque for each of 1 to [`SEATS`](crate::SEATS) seats, and the seats, from number 1 on.
     pub fn new(alloc: Global, seats: u32) -> Result<(Pool<B>, Vec<Seat<B>>), OutOfMemory>
-        requires { (1 ≤ seats) × (seats ≤ 64) }
+        requires { (1 ≤ seats) × (seats ≤ SEATS) }
         ensures pool { IfOk result (λ r. length r.0.deques ≡ seats) }
         ensures fresh { IfOk result (λ r. r.1.items ≡ fresh_seats r.0 seats) }
         ensures all { IfOk result (λ r. AreAllSeats r.0 r.1.items) }
@@ -31,7 +32,7 @@ impl<B: Drop> Pool<B> {
 
 // A pool of this many seats.
 fn opened<B: Drop>(alloc: Global, seats: u32) -> Result<(Pool<B>, Vec<Seat<B>>), AllocError>
-    requires { (1 ≤ seats) × (seats ≤ 64) }
+    requires { (1 ≤ seats) × (seats ≤ SEATS) }
     ensures pool { IfOk result (λ r. length r.0.deques ≡ seats) }
     ensures fresh { IfOk result (λ r. r.1.items ≡ fresh_seats r.0 seats) }
 {
@@ -48,7 +49,7 @@ fn opened<B: Drop>(alloc: Global, seats: u32) -> Result<(Pool<B>, Vec<Seat<B>>),
 
 // The deques, all empty, and their stealers.
 fn made<B: Drop>(alloc: Global, count: usize) -> Result<(Vec<Own<B>>, Vec<Other<B>>), AllocError>
-    requires { count ≤ 64 }
+    requires { count ≤ SEATS }
     ensures deques { IfOk result (λ r. map (λ s. stealer_deque s) r.1.items ≡ map (λ w. worker_deque w) r.0.items) }
     ensures views { IfOk result (λ r. (length r.0.items ≡ count) × (map (λ w. worker_view w) r.0.items ≡ worker_views count 0 0 count)) }
     ensures flavors { IfOk result (λ r. All (λ w. IsOwner w) r.0.items × All (λ s. stealer_flavor s ≡ 1) r.1.items) }
@@ -66,9 +67,9 @@ fn made<B: Drop>(alloc: Global, count: usize) -> Result<(Vec<Own<B>>, Vec<Other<
 
 // Tells a new deque how many seats there are.
 fn settled<B: Drop, N: Size>(worker: &mut Own<B>, _seats: usize)
-    requires { (N.seats ≡ _seats) × IsOwner worker.old × (worker_view worker.old ≡ view_of 0 64 [] []) }
+    requires { (N.seats ≡ _seats) × IsOwner worker.old × (worker_view worker.old ≡ view_of 0 SEATS [] []) }
     ensures same { (worker_deque worker.new ≡ worker_deque worker.old) × (worker_flavor worker.new ≡ worker_flavor worker.old) × (worker_port worker.new ≡ worker_port worker.old) }
-    ensures view { worker_view worker.new ≡ view_of _seats 64 [] [] }
+    ensures view { worker_view worker.new ≡ view_of _seats SEATS [] [] }
 {
     let _spent = worker.another::<Settle<N>>();
 }
@@ -80,7 +81,7 @@ fn dealt<B: Drop>(
     worker: &mut Own<B>,
     stealer: &Other<B>,
 ) -> Pass<B, SeatView<B>>
-    requires place { (1 ≤ number) × (number ≤ 64) × (at < 64) }
+    requires place { (1 ≤ number) × (number ≤ SEATS) × (at < SEATS) }
     requires deque { stealer_deque stealer.now ≡ worker_deque worker.old }
     requires view { worker_view worker.old ≡ view_of (worker_view worker.old).seats (keeps (number - 1) at (at + 1)) [] [] }
     ensures same { (worker_deque worker.new ≡ worker_deque worker.old) × (worker_flavor worker.new ≡ worker_flavor worker.old) × (worker_port worker.new ≡ worker_port worker.old) }
@@ -101,7 +102,7 @@ fn dealt_row<B: Drop>(
     workers: &mut Vec<Own<B>>,
     stealers: &Vec<Other<B>>,
 ) -> Result<Vec<Pass<B, SeatView<B>>>, AllocError>
-    requires place { (1 ≤ number) × (number ≤ length workers.old.items) × (length workers.old.items ≤ 64) }
+    requires place { (1 ≤ number) × (number ≤ length workers.old.items) × (length workers.old.items ≤ SEATS) }
     requires deques { map (λ s. stealer_deque s) stealers.now.items ≡ map (λ w. worker_deque w) workers.old.items }
     requires views { map (λ w. worker_view w) workers.old.items ≡ worker_views (length workers.old.items) (number - 1) 0 (length workers.old.items) }
     requires flavor { All (λ w. IsOwner w) workers.old.items }
@@ -122,8 +123,8 @@ fn seated<B: Drop>(
     mut rows: Vec<Vec<Pass<B, SeatView<B>>>>,
     mut list: Vec<Seat<B>>,
 ) -> Vec<Seat<B>>
-    requires workers { All (λ w. IsOwner w × (worker_view w ≡ view_of (length workers.items) (65 - length workers.items) [] [])) workers.items }
-    requires size { (length workers.items ≤ 64) × (length rows.items ≡ length workers.items) }
+    requires workers { All (λ w. IsOwner w × (worker_view w ≡ view_of (length workers.items) (SEATS + 1 - length workers.items) [] [])) workers.items }
+    requires size { (length workers.items ≤ SEATS) × (length rows.items ≡ length workers.items) }
     requires rows { Numbered (λ k r. IsRow (map (λ w. worker_deque w) workers.items) k r.items) 1 rows.items }
     requires room { (list.items ≡ []) × (length workers.items ≤ vec_capacity list) }
     ensures { result.items ≡ map (λ k. fresh_seat (map (λ w. worker_deque w) workers.items) k) (range_with_len 1 (length workers.items)) }
