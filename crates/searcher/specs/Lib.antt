@@ -1,0 +1,5 @@
+pub mod Workings
+pub mod Branches
+pub mod Ends
+pub mod Expansions
+pub mod Searches
