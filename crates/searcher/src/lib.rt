@@ -3,6 +3,8 @@
 #![tactic(auto)]
 
 mod branches;
+mod children;
+mod circuits;
 mod expansions;
 mod searching;
 
