@@ -1,4 +1,5 @@
 pub mod Workings
+pub mod LineCircuits
 pub mod Branches
 pub mod Ends
 pub mod Expansions
