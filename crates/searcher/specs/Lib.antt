@@ -1,5 +1,6 @@
 pub mod Workings
 pub mod Branches
 pub mod Ends
+pub mod Kept
 pub mod Expansions
 pub mod Searches
