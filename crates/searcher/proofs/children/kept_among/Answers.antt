@@ -1,8 +1,4 @@
-use Rattle.std.proofs.Common.{◌-◌, [], ◌∷◌, subst, sym, ap}
-use Rattle.cayley.specs.Cells.{Cell, IsListOf}
-use Rattle.cayley.specs.Parents.{Precedes}
-use Rattle.flip_rule.specs.Few.{cells_of}
-use Rattle.std.specs.Prelude.{MatchOption}
+use Rattle.std.proofs.Common.{◌-◌}
 use Rattle.searcher.proofs.KeptChildren.{one_kept, none_kept, both_kept, first_kept, second_kept, neither_kept}
 use Rattle.searcher.proofs.children.kept_among.Goals as goal
 
