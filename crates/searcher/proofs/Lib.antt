@@ -1,1 +1,2 @@
 mod AllCircuits
+mod KeptChildren
