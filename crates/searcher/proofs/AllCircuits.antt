@@ -1,7 +1,6 @@
 -- the circuits of all lines' points are those of all further points
-use Rattle.std.proofs.Common.{◌≡◌, ◌↔◌, ℕ, zero, suc, ◌-◌, ◌<◌, ◌≤◌, List, [], ◌∷◌, length, drop, arith, refl, sym, subst, ◌∙◌, inl, inr, ap, drop-cons, add-one}
+use Rattle.std.proofs.Common.{◌≡◌, ℕ, zero, suc, ◌-◌, ◌<◌, ◌≤◌, List, [], ◌∷◌, length, arith, refl, subst, inl, inr}
 use Rattle.std.proofs.Math.IntN.{ℤ}
-use Rattle.std.specs.Prelude.{slice_index_or}
 use Rattle.int_vectors.specs.Vectors.{Each}
 use Rattle.cayley.specs.Problems.{Point, Problem}
 use Rattle.cayley.specs.Cells.{Cell, IsFurther}
@@ -10,7 +9,7 @@ use Rattle.cayley.proofs.Lists.Each.{each_weaker}
 use Rattle.crossing.specs.declared.line.WallLine.{WallLine}
 use Rattle.cone_walls.specs.Places.{HasLine, AreOfFurtherPoints}
 use Rattle.inner_normal.specs.Coefficients.{difference, FitsCoefficients}
-use Rattle.inner_normal.specs.Inverses.{Inverse, inverse_of, FitsInverse}
+use Rattle.inner_normal.specs.Inverses.{inverse_of, FitsInverse}
 use Rattle.searcher.specs.LineCircuits.{NamesFurther, FitsItsCircuit}
 use Rattle.searcher.specs.Workings.{FitAllCircuits}
 

@@ -1,5 +1,5 @@
 -- The circuits of the points that a list of wall lines names.
-use Rattle.std.specs.Prelude.{ℕ, ◌-◌, ◌≤◌}
+use Rattle.std.specs.Prelude.{◌-◌, ◌≤◌}
 use Rattle.cayley.specs.Problems.{Problem}
 use Rattle.cayley.specs.Cells.{Cell}
 use Rattle.cayley.specs.Dependencies.{IsFurtherAt}

@@ -1,8 +1,8 @@
-use Rattle.std.proofs.Common.{rules, ◌≡◌, ◌∙◌, ◌≤◌, length, sym, ap, subst, arith}
+use Rattle.std.proofs.Common.{rules, ◌≡◌, ◌≤◌, length, sym, subst}
 use Rattle.std.specs.Prelude.{IsTrue}
 use Rattle.std.proofs.lemmas.Result.{err_from_is_err_and}
 use Rattle.int_vectors.specs.Vectors.{Each}
-use Rattle.inner_normal.specs.Inverses.{Inverse, inverse_of, FitsInverse}
+use Rattle.inner_normal.specs.Inverses.{Inverse, FitsInverse}
 use Rattle.inner_normal.proofs.CellAnswers.{reduced_widths}
 use Rattle.inner_normal.proofs.Faults.{fault_other}
 use Rattle.searcher.specs.LineCircuits.{FitsItsCircuit}
