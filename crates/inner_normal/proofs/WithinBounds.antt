@@ -1,5 +1,5 @@
 -- a bound on the columns, and the numbers of every further point fit
-use Rattle.std.proofs.Common.{◌≡◌, ℕ, zero, suc, ◌+◌, ◌*◌, ◌^◌, ◌<◌, ◌≤◌, ℤ, pos, ◌-ℤ◌, unsigned_abs, List, [], ◌∷◌, length, sym, subst, arith}
+use Rattle.std.proofs.Common.{ℕ, zero, suc, ◌+◌, ◌*◌, ◌^◌, ◌<◌, ◌≤◌, ℤ, pos, ◌-ℤ◌, unsigned_abs, List, [], ◌∷◌, length, sym, subst, arith}
 use Rattle.wide_int.specs.Whole.{FitsWhole}
 use Rattle.int_vectors.specs.Bounds.{size, Within, SumBelow}
 use Rattle.int_vectors.specs.Fits.{FitsDot}

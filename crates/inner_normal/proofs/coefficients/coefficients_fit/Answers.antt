@@ -1,4 +1,4 @@
-use Rattle.std.proofs.Common.{rules, ◌≡◌, ◌∙◌, ◌^◌, pos, sym, ap, length, false, FitsSigned, to_z-of_z, arith, List, ℤ}
+use Rattle.std.proofs.Common.{rules, ◌≡◌, ◌∙◌, sym, ap, length, false, FitsSigned, to_z-of_z, arith, List, ℤ}
 use Rattle.std.specs.Int.{w128}
 use Rattle.std.specs.Prelude.{IsTrue}
 use Rattle.int_vectors.specs.Vectors.{sub}
