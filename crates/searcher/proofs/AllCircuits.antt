@@ -50,7 +50,7 @@ module _ (p : Problem) (cell : Cell) (made : List (List ℤ)) (lines : List Wall
       let e : suc j - 1 ≡ j = omega arith in (
         i,
         subst (λ (i : ℕ). FitsCoefficients i (inverse_of made) (difference p cell i c)) e
-        (each_has (λ s c. FitsCoefficients (s - 1) (inverse_of made) (difference p cell (s - 1) c)) lines (suc j) c h (line_of j c f)),
+            (each_has (λ s c. FitsCoefficients (s - 1) (inverse_of made) (difference p cell (s - 1) c)) lines (suc j) c h (line_of j c f)),
       )
 
 pub each_circuit : (p : Problem) (cell : Cell) (made : List (List ℤ)) (lines : List WallLine) → Each lines (NamesFurther p cell) → FitAllCircuits p cell made → Each lines (FitsItsCircuit p cell (inverse_of made))

@@ -76,15 +76,15 @@ module _ (p : Problem) (cell : Cell) (j c : ℕ) (signs : Sign × Sign) (u : lex
   one_kept x b l k = (
     (truly x b k, tt),
     subst (λ (y : Cell). IsListOf (λ tau. IsParent p cell tau) (y ∷ [])) (sym (its x b k))
-    (picked (λ tau. Precedes p cell tau w.t) (λ tau. IsParent p cell tau) before (x ∷ []) (x ∷ []) l tt
-    (λ z h. elim h [ inl e ↦ is_parent z x k.0 e | inr n ↦ absurd n ]) (λ z h q. h)),
+        (picked (λ tau. Precedes p cell tau w.t) (λ tau. IsParent p cell tau) before (x ∷ []) (x ∷ []) l tt
+        (λ z h. elim h [ inl e ↦ is_parent z x k.0 e | inr n ↦ absurd n ]) (λ z h q. h)),
   )
 
   pub none_kept : (x : Cell) → IsListOf (λ tau. Precedes p cell tau w.t) (x ∷ []) → ¬ (IsParent p cell x) → IsChildren p cell (branches_of [])
   none_kept x l n = (
     tt,
     picked (λ tau. Precedes p cell tau w.t) (λ tau. IsParent p cell tau) before (x ∷ []) [] l tt
-    (λ z h. absurd h) (λ z h q. elim h [ inl e ↦ absurd (n (is_parent x z q (sym e))) | inr n ↦ absurd n ]),
+        (λ z h. absurd h) (λ z h q. elim h [ inl e ↦ absurd (n (is_parent x z q (sym e))) | inr n ↦ absurd n ]),
   )
 
   module _ (x y : Cell) (l : IsListOf (λ tau. Precedes p cell tau w.t) (x ∷ y ∷ [])) where
@@ -92,35 +92,35 @@ module _ (p : Problem) (cell : Cell) (j c : ℕ) (signs : Sign × Sign) (u : lex
     both_kept a b k m = (
       (truly x a k, (truly y b m, tt)),
       subst (λ (v : Cell). IsListOf (λ tau. IsParent p cell tau) (v ∷ b.cell ∷ [])) (sym (its x a k))
-      (subst (λ (v : Cell). IsListOf (λ tau. IsParent p cell tau) (x ∷ v ∷ [])) (sym (its y b m))
-      (picked (λ tau. Precedes p cell tau w.t) (λ tau. IsParent p cell tau) before (x ∷ y ∷ []) (x ∷ y ∷ []) l l.0
-      (λ z h. elim h [ inl e ↦ is_parent z x k.0 e | inr i ↦ elim i [ inl e ↦ is_parent z y m.0 e | inr n ↦ absurd n ] ]) (λ z h q. h))),
+          (subst (λ (v : Cell). IsListOf (λ tau. IsParent p cell tau) (x ∷ v ∷ [])) (sym (its y b m))
+          (picked (λ tau. Precedes p cell tau w.t) (λ tau. IsParent p cell tau) before (x ∷ y ∷ []) (x ∷ y ∷ []) l l.0
+          (λ z h. elim h [ inl e ↦ is_parent z x k.0 e | inr i ↦ elim i [ inl e ↦ is_parent z y m.0 e | inr n ↦ absurd n ] ]) (λ z h q. h))),
     )
 
     pub first_kept : (a : Branch) → IsKept p cell u x a → ¬ (IsParent p cell y) → IsChildren p cell (branches_of (a ∷ []))
     first_kept a k n = (
       (truly x a k, tt),
       subst (λ (v : Cell). IsListOf (λ tau. IsParent p cell tau) (v ∷ [])) (sym (its x a k))
-      (picked (λ tau. Precedes p cell tau w.t) (λ tau. IsParent p cell tau) before (x ∷ y ∷ []) (x ∷ []) l tt
-      (λ z h. elim h [ inl e ↦ is_parent z x k.0 e | inr i ↦ absurd i ])
-      (λ z h q. elim h [ inl e ↦ inl e | inr i ↦ elim i [ inl e ↦ absurd (n (is_parent y z q (sym e))) | inr o ↦ absurd o ] ])),
+          (picked (λ tau. Precedes p cell tau w.t) (λ tau. IsParent p cell tau) before (x ∷ y ∷ []) (x ∷ []) l tt
+          (λ z h. elim h [ inl e ↦ is_parent z x k.0 e | inr i ↦ absurd i ])
+          (λ z h q. elim h [ inl e ↦ inl e | inr i ↦ elim i [ inl e ↦ absurd (n (is_parent y z q (sym e))) | inr o ↦ absurd o ] ])),
     )
 
     pub second_kept : (b : Branch) → ¬ (IsParent p cell x) → IsKept p cell u y b → IsChildren p cell (branches_of (b ∷ []))
     second_kept b n m = (
       (truly y b m, tt),
       subst (λ (v : Cell). IsListOf (λ tau. IsParent p cell tau) (v ∷ [])) (sym (its y b m))
-      (picked (λ tau. Precedes p cell tau w.t) (λ tau. IsParent p cell tau) before (x ∷ y ∷ []) (y ∷ []) l tt
-      (λ z h. elim h [ inl e ↦ is_parent z y m.0 e | inr i ↦ absurd i ])
-      (λ z h q. elim h [ inl e ↦ absurd (n (is_parent x z q (sym e))) | inr i ↦ i ])),
+          (picked (λ tau. Precedes p cell tau w.t) (λ tau. IsParent p cell tau) before (x ∷ y ∷ []) (y ∷ []) l tt
+          (λ z h. elim h [ inl e ↦ is_parent z y m.0 e | inr i ↦ absurd i ])
+          (λ z h q. elim h [ inl e ↦ absurd (n (is_parent x z q (sym e))) | inr i ↦ i ])),
     )
 
     pub neither_kept : ¬ (IsParent p cell x) → ¬ (IsParent p cell y) → IsChildren p cell (branches_of [])
     neither_kept n m = (
       tt,
       picked (λ tau. Precedes p cell tau w.t) (λ tau. IsParent p cell tau) before (x ∷ y ∷ []) [] l tt
-      (λ z h. absurd h)
-      (λ z h q. elim h [ inl e ↦ absurd (n (is_parent x z q (sym e))) | inr i ↦ elim i [ inl e ↦ absurd (m (is_parent y z q (sym e))) | inr o ↦ absurd o ] ]),
+          (λ z h. absurd h)
+          (λ z h q. elim h [ inl e ↦ absurd (n (is_parent x z q (sym e))) | inr i ↦ elim i [ inl e ↦ absurd (m (is_parent y z q (sym e))) | inr o ↦ absurd o ] ]),
     )
 
 -- ---- the wall

@@ -45,6 +45,6 @@ pub returns : goal.returns
 returns c =
     let t : IsTrue c.circuits_fit.result = search rules in (
       all_circuits c.args.problem.now c.args.cell.now c.args.reduced.now c.args.lines.now c.requires.places c.in_ok-inverse.ensures.0
-      (subst (λ (i : Inverse). Each c.args.lines.now (FitsItsCircuit c.args.problem.now c.args.cell.now i)) c.in_ok-inverse.ensures.1 (c.circuits_fit.ensures.0 t)),
+          (subst (λ (i : Inverse). Each c.args.lines.now (FitsItsCircuit c.args.problem.now c.args.cell.now i)) c.in_ok-inverse.ensures.1 (c.circuits_fit.ensures.0 t)),
       c.in_ok-inverse.ensures.1,
     )
