@@ -13,3 +13,4 @@ pub mod InverseSteps
 pub mod CoefficientSteps
 pub mod Bounded
 pub mod RankOrder
+pub mod WithinBounds

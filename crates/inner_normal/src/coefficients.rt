@@ -1,4 +1,4 @@
-ghost use Rattle.std.specs.Prelude.{◌≡◌, ◌<◌, ◌^◌, ◌∷◌, [], ◌-ℤ◌, neg_ℤ, pos, SomeIff, IfSome, IsTrue, MatchResult, length};
+ghost use Rattle.std.specs.Prelude.{◌≡◌, ◌↔◌, ◌<◌, ◌^◌, ◌∷◌, [], ◌-ℤ◌, neg_ℤ, pos, SomeIff, IfSome, IsTrue, MatchResult, length};
 ghost use Rattle.wide_int.specs.Whole.{FitsWhole};
 ghost use Rattle.int_vectors.specs.Bounds.{SumBelow};
 ghost use Rattle.int_vectors.specs.Fits.{AllFit, FitsDot};
@@ -98,4 +98,33 @@ pub(crate) fn coefficients(
     }
     made.push(den)?;
     Ok(made)
+}
+
+// Whether the coefficients of a cell and the point `c` against `a` fit; none of them is kept.
+pub(crate) fn coefficients_fit(
+    columns: &[IntVec],
+    bounded: bool,
+    den: i128,
+    c: &[i128],
+    a: &[i128],
+    place: usize,
+) -> bool
+    requires place { place < length columns.now }
+    requires columns { Each columns.now (λ column. length column ≡ length c.now) }
+    requires points { length a.now ≡ length c.now }
+    requires c_near { Each c.now IsCornerCoordinate }
+    requires a_near { Each a.now IsCornerCoordinate }
+    requires bound { IsTrue bounded → Each columns.now (SumBelow (2 ^ 127) 66000000 den) }
+    ensures { let v = sub c.now a.now in
+        IsTrue result ↔ (Each columns.now (FitsDot (pos 0) v) × FitsWhole (at (products v columns.now) place -ℤ den)) }
+{
+    if bounded {
+        return true;
+    }
+    for (i, column) in columns.iter().enumerate() {
+        let Some(_pair) = pair_of(c, a, column.as_slice(), false, i, place, den) else {
+            return false;
+        };
+    }
+    true
 }

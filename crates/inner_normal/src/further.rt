@@ -1,4 +1,4 @@
-ghost use Rattle.std.specs.Prelude.{◌≡◌, ◌+◌, ◌-◌, ◌*◌, ◌≤◌, MatchResult, IfOk, length};
+ghost use Rattle.std.specs.Prelude.{◌≡◌, ◌↔◌, ◌+◌, ◌-◌, ◌*◌, ◌≤◌, IsTrue, MatchResult, IfOk, length};
 ghost use Rattle.int_vectors.specs.Vectors.{Each};
 ghost use Rattle.reduced_rows.specs.Refusals.{IsFromFault};
 ghost use Rattle.cayley.specs.Cells.{IsOf};
@@ -69,6 +69,30 @@ pub fn coefficients_at(
     let c = point_of(problem, support, position);
     inverse.coefficients(
         alloc,
+        c.coords.as_slice(),
+        a.coords.as_slice(),
+        support as usize - 1,
+    )
+}
+
+/// Whether all numbers of the dependency of a cell and the further point of `support` at `position`
+/// fit, so that `coefficients_at` doesn't answer `Overflow`. No memory is taken, and where the sizes
+/// of the inverse's columns show that the numbers of every further point fit, no number is made.
+pub fn coefficients_fit_at(
+    problem: &Problem,
+    cell: &Cell,
+    inverse: &ScaledInverse,
+    support: u32,
+    position: u32,
+) -> bool
+    requires cell { IsOf problem.now cell.now }
+    requires point { (1 ≤ support) × (support ≤ problem.now.dimension) × IsFurtherAt problem.now cell.now (support - 1) position }
+    requires inverse { IsInverseOf problem.now cell.now inverse.now }
+    ensures { IsTrue result ↔ FitsCoefficients (support - 1) inverse.now (difference problem.now cell.now (support - 1) position) }
+{
+    let a = point_of(problem, support, first_of(problem, cell, support));
+    let c = point_of(problem, support, position);
+    inverse.coefficients_fit(
         c.coords.as_slice(),
         a.coords.as_slice(),
         support as usize - 1,

@@ -1,4 +1,4 @@
-ghost use Rattle.std.specs.Prelude.{◌≡◌, ◌+◌, ◌*◌, ◌^◌, ◌<◌, pos, ◌<ℤ◌, IsTrue, MatchResult, length, unsigned_abs};
+ghost use Rattle.std.specs.Prelude.{◌≡◌, ◌↔◌, ◌+◌, ◌*◌, ◌^◌, ◌<◌, pos, ◌<ℤ◌, IsTrue, MatchResult, length, unsigned_abs};
 ghost use Rattle.wide_int.specs.Whole.{FitsWhole};
 ghost use Rattle.int_vectors.specs.Bounds.{SumBelow};
 ghost use Rattle.int_vectors.specs.Vectors.{Each, sub};
@@ -10,7 +10,7 @@ ghost use Rattle.inner_normal.specs.Coefficients.{FitsCoefficients};
 ghost use Rattle.inner_normal.specs.Inverses.{scaled_columns, FitsColumns, inverse_of, FitsInverse};
 ghost use Rattle.inner_normal.specs.Workings.{HaveWidths, denominator};
 
-use crate::coefficients::coefficients;
+use crate::coefficients::{coefficients, coefficients_fit};
 use int_vectors::{IntVec, row_fits};
 use reduced_rows::{FromFault, Reduced};
 use std::alloc::Global;
@@ -140,5 +140,17 @@ impl ScaledInverse {
     {
         let made = coefficients(alloc, &self.columns, self.bounded, self.den, c, a, place)?;
         Ok(IntVec::from_vec(made))
+    }
+
+    // Whether the coefficients fit; none of them is kept.
+    pub(crate) fn coefficients_fit(&self, c: &[i128], a: &[i128], place: usize) -> bool
+        requires place { place < length self.now.columns }
+        requires columns { Each self.now.columns (λ column. length column ≡ length c.now) }
+        requires points { length a.now ≡ length c.now }
+        requires c_near { Each c.now IsCornerCoordinate }
+        requires a_near { Each a.now IsCornerCoordinate }
+        ensures { IsTrue result ↔ FitsCoefficients place self.now (sub c.now a.now) }
+    {
+        coefficients_fit(&self.columns, self.bounded, self.den, c, a, place)
     }
 }

@@ -1,0 +1,2 @@
+mod AllCircuits
+mod KeptChildren

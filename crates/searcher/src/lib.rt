@@ -1,0 +1,17 @@
+//! One searcher: a branch is expanded to its children, and the search goes on until no branch is
+//! left.
+#![tactic(auto)]
+
+mod branches;
+mod children;
+mod circuits;
+mod expansions;
+mod searching;
+
+pub use branches::Branch;
+pub use cayley::{Begin, FoundCell};
+pub use expansions::{Children, Expansion, Halt, HaltCause, expand};
+pub use searching::{Found, Stopped, search_alone};
+
+#[cfg(test)]
+mod tests;
