@@ -1,0 +1,7 @@
+mod ZeroLines
+mod LinePoints
+mod TwoEnds
+mod OneAnswer
+mod ShownEnds
+mod FileCells
+mod TiedEnds

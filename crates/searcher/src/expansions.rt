@@ -5,6 +5,7 @@ ghost use Rattle.cayley.specs.Ties.{IsTieFree};
 ghost use Rattle.searcher.specs.Expansions.{Kind, IsOfKind, IsAnswer, HasAnswer, IsExpansion, IsHalt, ShowsTieAtEnd, HasNoTie};
 
 use crate::branches::Branch;
+use crate::settling::expanded;
 use cayley::{Cell, FoundCell, Problem, TieProof};
 use cone_walls::Steps;
 use std::alloc::Global;
@@ -80,8 +81,9 @@ pub fn expand<L: Ledger>(
     ensures step { IsOf problem.now branch.cell → steps.new ≡ steps.old + 1 }
     ensures no_step { ¬ (IsOf problem.now branch.cell) → steps.new ≡ steps.old }
 {
-    Err(Halt {
-        cause: HaltCause::OutOfMemory,
-        branch,
-    })
+    match expanded(alloc, problem, &branch, steps) {
+        Ok(Some(expansion)) => Ok(expansion),
+        Ok(None) => Ok(Expansion::Stranger { branch }),
+        Err(cause) => Err(Halt { cause, branch }),
+    }
 }
