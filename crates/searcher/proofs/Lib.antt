@@ -5,3 +5,7 @@ mod OneAnswer
 mod ShownEnds
 mod FileCells
 mod TiedEnds
+mod FitWorkings
+mod FileTargets
+mod EndCauses
+mod SettledBranches

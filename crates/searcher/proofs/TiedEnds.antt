@@ -70,21 +70,15 @@ module _ (p : Problem) (cell : Cell) (well : IsProblem p) (lines : List WallLine
 
   module _ (x : Exit) (ix : IsExit lines x) where
     -- ---- where it begins
-    begin_names : (u : lex.Value) (first second : ℕ) (ie : IsEntry lines (entry.Tied u first second)) → NamesLevel p cell (time_of u ie.1.0.2) (tie_between cell lines u first second)
-    begin_names u first second ie =
-        let a = live_alive p cell well lines life (entry.Tied u first second) x ie ix ie.0 in
-        let t = time_of u ie.1.0.2 in
-        let b = ((life (entry.Tied u first second) x ie ix a.0).0 a.2).0 in
-        (refl, (refl, refl), (spot lines (second - 1), refl, two_level p cell well a.2.0 a.2.1 lines places sides t (RisesAt u) (to_rise a.0 a.1 a.2 u ie.1.0.2 t (same_self t) b) (λ k l h. h.1) first second ie.3))
-
     pub begin_tied : (u : lex.Value) (first second : ℕ) → IsEntry lines (entry.Tied u first second)
         → IsTiedAtBegin p cell × ((t : Time) × BeginsAt p cell t × NamesLevel p cell t (tie_between cell lines u first second))
     begin_tied u first second ie =
         let a = live_alive p cell well lines life (entry.Tied u first second) x ie ix ie.0 in
         let t = time_of u ie.1.0.2 in
-        let b = begins_at_tied p cell well lines life x ix u first second ie in
-        let n = begin_names u first second ie in
-        ((t, b, two_tied p cell well a.2.0 a.2.1 t (spot lines (first - 1)) (spot lines (second - 1)) n.2.2), (t, b, n))
+        let c = ((life (entry.Tied u first second) x ie ix a.0).0 a.2).0 in
+        let d = begins_at_tied p cell well lines life x ix u first second ie in
+        let two = two_level p cell well a.2.0 a.2.1 lines places sides t (RisesAt u) (to_rise a.0 a.1 a.2 u ie.1.0.2 t (same_self t) c) (λ k l h. h.1) first second ie.3 in
+        ((t, d, two_tied p cell well a.2.0 a.2.1 t (spot lines (first - 1)) (spot lines (second - 1)) two), (t, d, (refl, (refl, refl), (spot lines (second - 1), refl, two))))
 
     pub begin_alone : (u : lex.Value) (which : ℕ) → IsEntry lines (entry.At u which) → ¬ (IsTiedAtBegin p cell)
     begin_alone u which ie h =

@@ -56,6 +56,25 @@ pub struct Halt {
     pub branch: Branch,
 }
 
+// The expansion of a branch, which comes back where it is a stranger or was refused.
+fn answered<L: Ledger>(
+    alloc: Global,
+    problem: &Problem,
+    branch: Branch,
+    steps: &mut Steps<L>,
+) -> Result<Expansion, Halt>
+    requires still { IsStill problem.now }
+    ensures answer { MatchResult result (IsExpansion problem.now branch) (IsHalt problem.now branch) }
+    ensures step { IsOf problem.now branch.cell → steps.new ≡ steps.old + 1 }
+    ensures no_step { ¬ (IsOf problem.now branch.cell) → steps.new ≡ steps.old }
+{
+    match expanded(alloc, problem, &branch, steps) {
+        Ok(Some(expansion)) => Ok(expansion),
+        Ok(None) => Ok(Expansion::Stranger { branch }),
+        Err(cause) => Err(Halt { cause, branch }),
+    }
+}
+
 /// Expands a branch of a problem whose file points rest (the flips of Jensen 2016, each new cell
 /// kept under one parent after Avis and Fukuda 1996).
 ///
@@ -81,9 +100,7 @@ pub fn expand<L: Ledger>(
     ensures step { IsOf problem.now branch.cell → steps.new ≡ steps.old + 1 }
     ensures no_step { ¬ (IsOf problem.now branch.cell) → steps.new ≡ steps.old }
 {
-    match expanded(alloc, problem, &branch, steps) {
-        Ok(Some(expansion)) => Ok(expansion),
-        Ok(None) => Ok(Expansion::Stranger { branch }),
-        Err(cause) => Err(Halt { cause, branch }),
-    }
+    // A problem is valid by its type, as its readers tell.
+    let _dim = problem.dim();
+    answered(alloc, problem, branch, steps)
 }
