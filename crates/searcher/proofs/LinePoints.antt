@@ -84,7 +84,7 @@ module _ (p : Problem) (cell : Cell) (well : IsProblem p) (of : IsOf p cell) (in
         let side = all_each (TellsSide p cell t v) lines (sides t v n) r.0 origin r.1 in
         let i : j ≡ (nth lines r.0).support - 1 = (let a = r.2 in omega (arith, a)) in
         let level = subst (λ i. IsLevel t v (support_at p.supports i) (pair_at cell i).0 (nth lines r.0).position) i
-            (subst (λ d. IsLevel t v (support_at p.supports j) (pair_at cell j).0 d) (sym r.3) h.1) in
+        (subst (λ d. IsLevel t v (support_at p.supports j) (pair_at cell j).0 d) (sym r.3) h.1) in
         (r.0, r.1, ap₂ (λ a b. (a, b)) r.2 r.3, side.1.1 level)
 
     then_of_zero : (k : ℕ) → k < length lines → IsZeroThen k → IsLevelThen p cell t (spot lines k)

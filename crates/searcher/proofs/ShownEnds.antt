@@ -32,7 +32,7 @@ module _ (p : Problem) (well : IsProblem p) (cell : Cell) (proof : TieProof) whe
   shown t v of ind n none h =
       let two = h.2.2 in
       let a : AreLevel p cell t v (spot_of proof.first) (Some h.2.0) =
-          ((two.0.0.0.0, (two.0.0.0.1, two.0.0.1 v n)), (two.1.0.0.0.0, (two.1.0.0.0.1, two.1.0.0.1 v n)), two.1.0.1) in
+      ((two.0.0.0.0, (two.0.0.0.1, two.0.0.1 v n)), (two.1.0.0.0.0, (two.1.0.0.0.1, two.1.0.0.1 v n)), two.1.0.1) in
       subst (λ c. ShowsTie p c t (spot_of proof.first) (option_map spot_of proof.second)) (sym h.0)
       (of, ind, (v, n, none, subst (AreLevel p cell t v (spot_of proof.first)) (sym h.2.1) a))
 

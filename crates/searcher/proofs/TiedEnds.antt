@@ -137,8 +137,7 @@ module _ (p : Problem) (cell : Cell) (well : IsProblem p) (lines : List WallLine
         let a = live_alive p cell well lines life e (exit.At u which) ie ix live in
         let t = time_of u ix.1.0.2 in
         let c = ((life e (exit.At u which) ie ix a.0).0 a.2).1 in
-        let v = a_normal p cell well a.2.0 a.2.1 t in
-        (
+        let v = a_normal p cell well a.2.0 a.2.1 t in (
           t,
           refl,
           refl,

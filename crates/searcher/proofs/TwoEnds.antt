@@ -107,8 +107,8 @@ one_time p cell well w u lw lu h b =
     let t = time_of w lw.0.2 in
     let v = time_of u lu.0.2 in
     let s : IsSameTime t v =
-        subst (λ q. IsZero (add (scale q (entries u.parts)) (scale (neg_ℤ u.den) (entries w.parts)))) h.2
-        (subst (λ z. IsZero (add (scale h.0.over (entries u.parts)) (scale (neg_ℤ u.den) z))) h.1 ((once_law p cell well).0 h.0 v h.3 b)) in
+    subst (λ q. IsZero (add (scale q (entries u.parts)) (scale (neg_ℤ u.den) (entries w.parts)))) h.2
+    (subst (λ z. IsZero (add (scale h.0.over (entries u.parts)) (scale (neg_ℤ u.den) z))) h.1 ((once_law p cell well).0 h.0 v h.3 b)) in
     time_once w u lw lu (λ l. never_before v (same_before t v v s l)) (λ l. never_before v (before_same v t v s l))
 
 -- ---- what the branch says

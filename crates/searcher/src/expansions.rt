@@ -23,18 +23,14 @@ pub enum Children {
 #[derive(Drop)]
 pub enum Expansion {
     /// The cell ends: the cells whose parent it is, each with the time at which it begins.
-    Inner {
-        children: Children,
-    },
+    Inner { children: Children },
     /// The cell never ends and has file points alone: a mixed cell of the target, with its normal
     /// in lowest terms.
     Target(FoundCell),
     /// The cell never ends and has a corner.
     Endless,
     /// The problem doesn't contain the cell, or it doesn't begin where the branch says.
-    Stranger {
-        branch: Branch,
-    },
+    Stranger { branch: Branch },
 }
 
 /// Why a branch wasn't expanded.
@@ -43,9 +39,7 @@ pub enum HaltCause {
     /// Two points are level where the cell begins, or else where it ends.
     Tie(TieProof),
     /// A number of the cell's working doesn't fit.
-    Overflow {
-        cell: Cell,
-    },
+    Overflow { cell: Cell },
     OutOfMemory,
 }
 

@@ -47,19 +47,34 @@ fn ended(
     // A problem is valid by its type, as its readers tell.
     let _dim = problem.dim();
     let cell = branch.cell();
-    if let Entry::Tied { time, first, second } = *entry {
+    if let Entry::Tied {
+        time,
+        first,
+        second,
+    } = *entry
+    {
         return Err(HaltCause::Tie(tie_of(cell, lines, time, first, second)));
     }
     match *exit {
-        Exit::Tied { time, first, second } => {
-            Err(HaltCause::Tie(tie_of(cell, lines, time, first, second)))
-        }
+        Exit::Tied {
+            time,
+            first,
+            second,
+        } => { Err(HaltCause::Tie(tie_of(cell, lines, time, first, second))) }
         Exit::At { time, which } => {
             let Some(inverse) = inverse else {
                 unreachable!();
             };
             let wall = &lines[which - 1];
-            match kept_children(alloc, problem, cell, &inverse, wall.support, wall.position, time) {
+            match kept_children(
+                alloc,
+                problem,
+                cell,
+                &inverse,
+                wall.support,
+                wall.position,
+                time,
+            ) {
                 Ok(children) => Ok(Expansion::Inner { children }),
                 Err(_fault) => Err(HaltCause::OutOfMemory),
             }
@@ -94,7 +109,16 @@ fn settled(
         return Ok(None);
     }
     let normal = walls.normal;
-    match ended(alloc, problem, branch, &walls.lines, normal, inverse, &entry, &exit) {
+    match ended(
+        alloc,
+        problem,
+        branch,
+        &walls.lines,
+        normal,
+        inverse,
+        &entry,
+        &exit,
+    ) {
         Ok(expansion) => Ok(Some(expansion)),
         Err(cause) => Err(cause),
     }

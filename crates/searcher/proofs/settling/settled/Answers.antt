@@ -13,8 +13,7 @@ pub returns-in-Err-Overflow : goal.returns-in-Err-Overflow
 returns-in-Err-Overflow c =
     let p = c.args.problem.now in
     let w = c.args.walls in
-    let n = rw c.in-Err-Overflow.field-0-is at c.in-Err-Overflow.ensures in
-    (
+    let n = rw c.in-Err-Overflow.field-0-is at c.in-Err-Overflow.ensures in (
       circuits_overflow p c.args.branch.now w.reduced w.normal w.lines.items c.requires.answer c.requires.walls (λ h. n (subst (λ z. FitAllCircuits p z w.reduced) (sym c.cell-cell.ensures) h)),
       c.copy.ensures ∙ c.cell-cell.ensures,
     )

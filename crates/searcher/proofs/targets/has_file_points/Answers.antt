@@ -21,8 +21,8 @@ returns-then-not-is_file_point c = (
       let k = ap length q in
       let l : c.loop-place.place < length c.pairs-pairs.result.now = search rules in
       let b : (slice_index_or c.pairs-pairs.result.now c.loop-place.place (0, 0)).1 ≤ slice_index_or c.args.problem.now.files c.loop-place.place 0 =
-          subst (λ (z : Cell). (slice_index_or z c.loop-place.place (0, 0)).1 ≤ slice_index_or c.args.problem.now.files c.loop-place.place 0) (sym q)
-          (below_files c.args.problem.now c.args.cell.now h c.loop-place.place (omega (arith, k, l))) in
+      subst (λ (z : Cell). (slice_index_or z c.loop-place.place (0, 0)).1 ≤ slice_index_or c.args.problem.now.files c.loop-place.place 0) (sym q)
+      (below_files c.args.problem.now c.args.cell.now h c.loop-place.place (omega (arith, k, l))) in
       search (rules, b)),
 )
 
