@@ -60,7 +60,7 @@ fn ended(
             time,
             first,
             second,
-        } => { Err(HaltCause::Tie(tie_of(cell, lines, time, first, second))) }
+        } => Err(HaltCause::Tie(tie_of(cell, lines, time, first, second))),
         Exit::At { time, which } => {
             let Some(inverse) = inverse else {
                 unreachable!();

@@ -1,5 +1,4 @@
-use Rattle.std.proofs.Common.{rules, ◌≡◌, ◌≤◌, ◌-◌, ◌∙◌, ap, sym, subst}
-use Rattle.cayley.specs.Cells.{IsOf}
+use Rattle.std.proofs.Common.{◌-◌, ◌∙◌, ap, sym, subst}
 use Rattle.cayley.specs.Shares.{IsChildren}
 use Rattle.crossing.specs.Entries.{IsEntry}
 use Rattle.crossing.specs.Exits.{IsExit}

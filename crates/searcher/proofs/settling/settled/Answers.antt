@@ -1,6 +1,5 @@
 use Rattle.std.proofs.Common.{rules, IsTrue, ◌≡◌, [], ◌∙◌, sym, subst}
 use Rattle.std.specs.Prelude.{MatchOption}
-use Rattle.cayley.specs.Cells.{Cell}
 use Rattle.crossing.specs.Entries.{IsEntry}
 use Rattle.crossing.specs.Exits.{IsExit}
 use Rattle.inner_normal.specs.Inverses.{inverse_of}

@@ -1,4 +1,4 @@
-use Rattle.std.proofs.Common.{rules, true≢false, IsTrue, ◌≡◌, ◌≤◌, ◌<◌, ◌+◌, length, slice_index_or, arith, refl, sym, ap, subst}
+use Rattle.std.proofs.Common.{rules, true≢false, ◌≤◌, ◌<◌, length, slice_index_or, arith, refl, sym, ap, subst}
 use Rattle.cayley.specs.Cells.{Cell}
 use Rattle.cayley.proofs.Flipping.Places.{pairs_long}
 use Rattle.cayley.proofs.OneCell.CellRows.{InRange}

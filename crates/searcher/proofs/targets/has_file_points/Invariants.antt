@@ -1,4 +1,4 @@
-use Rattle.std.proofs.Common.{◌≡◌, ◌≤◌, ◌<◌, length}
+use Rattle.std.proofs.Common.{◌≡◌, length}
 use Rattle.searcher.proofs.FileCells.{AreBelow}
 use Rattle.searcher.proofs.targets.has_file_points.Given as goal
 
