@@ -1,2 +1,13 @@
 mod AllCircuits
 mod KeptChildren
+mod ZeroLines
+mod LinePoints
+mod TwoEnds
+mod OneAnswer
+mod ShownEnds
+mod FileCells
+mod TiedEnds
+mod FitWorkings
+mod FileTargets
+mod EndCauses
+mod SettledBranches

@@ -4,4 +4,5 @@ pub mod Branches
 pub mod Ends
 pub mod Kept
 pub mod Expansions
+pub mod CellWalls
 pub mod Searches

@@ -5,6 +5,7 @@ ghost use Rattle.cayley.specs.Ties.{IsTieFree};
 ghost use Rattle.searcher.specs.Expansions.{Kind, IsOfKind, IsAnswer, HasAnswer, IsExpansion, IsHalt, ShowsTieAtEnd, HasNoTie};
 
 use crate::branches::Branch;
+use crate::settling::expanded;
 use cayley::{Cell, FoundCell, Problem, TieProof};
 use cone_walls::Steps;
 use std::alloc::Global;
@@ -22,18 +23,14 @@ pub enum Children {
 #[derive(Drop)]
 pub enum Expansion {
     /// The cell ends: the cells whose parent it is, each with the time at which it begins.
-    Inner {
-        children: Children,
-    },
+    Inner { children: Children },
     /// The cell never ends and has file points alone: a mixed cell of the target, with its normal
     /// in lowest terms.
     Target(FoundCell),
     /// The cell never ends and has a corner.
     Endless,
     /// The problem doesn't contain the cell, or it doesn't begin where the branch says.
-    Stranger {
-        branch: Branch,
-    },
+    Stranger { branch: Branch },
 }
 
 /// Why a branch wasn't expanded.
@@ -42,9 +39,7 @@ pub enum HaltCause {
     /// Two points are level where the cell begins, or else where it ends.
     Tie(TieProof),
     /// A number of the cell's working doesn't fit.
-    Overflow {
-        cell: Cell,
-    },
+    Overflow { cell: Cell },
     OutOfMemory,
 }
 
@@ -53,6 +48,25 @@ pub enum HaltCause {
 pub struct Halt {
     pub cause: HaltCause,
     pub branch: Branch,
+}
+
+// The expansion of a branch, which comes back where it is a stranger or was refused.
+fn answered<L: Ledger>(
+    alloc: Global,
+    problem: &Problem,
+    branch: Branch,
+    steps: &mut Steps<L>,
+) -> Result<Expansion, Halt>
+    requires still { IsStill problem.now }
+    ensures answer { MatchResult result (IsExpansion problem.now branch) (IsHalt problem.now branch) }
+    ensures step { IsOf problem.now branch.cell → steps.new ≡ steps.old + 1 }
+    ensures no_step { ¬ (IsOf problem.now branch.cell) → steps.new ≡ steps.old }
+{
+    match expanded(alloc, problem, &branch, steps) {
+        Ok(Some(expansion)) => Ok(expansion),
+        Ok(None) => Ok(Expansion::Stranger { branch }),
+        Err(cause) => Err(Halt { cause, branch }),
+    }
 }
 
 /// Expands a branch of a problem whose file points rest (the flips of Jensen 2016, each new cell
@@ -80,8 +94,7 @@ pub fn expand<L: Ledger>(
     ensures step { IsOf problem.now branch.cell → steps.new ≡ steps.old + 1 }
     ensures no_step { ¬ (IsOf problem.now branch.cell) → steps.new ≡ steps.old }
 {
-    Err(Halt {
-        cause: HaltCause::OutOfMemory,
-        branch,
-    })
+    // A problem is valid by its type, as its readers tell.
+    let _dim = problem.dim();
+    answered(alloc, problem, branch, steps)
 }

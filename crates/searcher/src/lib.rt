@@ -2,11 +2,15 @@
 //! left.
 #![tactic(auto)]
 
+mod begins;
 mod branches;
 mod children;
 mod circuits;
 mod expansions;
 mod searching;
+mod settling;
+mod targets;
+mod ties;
 
 pub use branches::Branch;
 pub use cayley::{Begin, FoundCell};
