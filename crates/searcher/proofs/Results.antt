@@ -22,11 +22,12 @@ use Rattle.searcher.specs.declared.branches.Branch.{Branch}
 use Rattle.searcher.specs.declared.expansions.HaltCause.{HaltCause}
 use Rattle.searcher.specs.declared.expansions.HaltCause.TheVariants.{Tie, Overflow, OutOfMemory}
 use Rattle.searcher.specs.declared.searching.Found.{Found}
+use Rattle.searcher.specs.declared.searching.Stopped.{Stopped}
 use Rattle.searcher.specs.Branches.{branch_of, branches_of}
 use Rattle.searcher.specs.Workings.{FitsWorking}
 use Rattle.searcher.specs.Ends.{NamesEnd}
 use Rattle.searcher.specs.Expansions.{IsCause, HasLowestNormal}
-use Rattle.searcher.specs.Searches.{NeverFalls, cells_of, all_shares, AreSharesOf, CostOf, IsFound, IsOfLeft, FindsShare, FindsSize, top}
+use Rattle.searcher.specs.Searches.{NeverFalls, cells_of, all_shares, AreSharesOf, CostOf, IsFound, IsStopped, IsLeft, IsOfLeft, FindsShare, FindsSize, top}
 use Rattle.searcher.proofs.Orders.{as_counted}
 use Rattle.searcher.proofs.Turns.{each_in, in_each}
 
@@ -73,6 +74,17 @@ all_counted p well given left solves none few counts =
       counts_end costs.0 top (branches_of given) (branches_of left) solves (ap branches_of none) few (counts sizes.0 costs.0 sizes.1 costs.1),
     )
 
+pub found_whole : (p : Problem) → IsProblem p → (given left : List Branch) (cells : List FoundCell) (found : Found) → left ≡ [] → IsPermutation cells found.cells.items → NeverFalls (cells_of found.cells.items)
+    → ((share : shares.Branch → List Cell) → GivesShares p share → Keeps share (branches_of given) (cells_of cells) (branches_of left))
+    → ((size cost : shares.Branch → ℕ) → GivesSizes p size → GivesCosts p size cost → Counts cost top (branches_of given) found.solves (branches_of left)) → found.solves ≤ top
+    → Each cells (HasLowestNormal p) → IsFound p given found
+found_whole p well given left cells found none moved order keeps counts few normals = record {
+  cells = all_found p given left cells found.cells.items none moved keeps;
+  order = order;
+  normals = normals_sorted p cells found.cells.items moved normals;
+  solves = all_counted p well given left found.solves none few counts;
+}
+
 -- ---- of one branch
 pub finds_share : (p : Problem) → IsProblem p → (given : List Branch) (found : Found) → IsFound p given found → FindsShare p given found
 finds_share p well given found is b only =
@@ -108,3 +120,15 @@ cause_left p left rest b cause popped is = by_cause cause is
     by_cause (Overflow cell) h =
         subst (λ c. Contains (map (λ (x : Branch). x.cell) left) c × IsOf p c × ¬ (FitsWorking p c)) (sym h.1) (there, h.0.0, h.0.1)
     by_cause OutOfMemory h = tt
+
+pub stopped_with : (p : Problem) (given left : List Branch) (cells : List FoundCell) (stopped : Stopped) → stopped.left.items ≡ left → stopped.found.cells.items ≡ cells
+    → ((share : shares.Branch → List Cell) → GivesShares p share → Keeps share (branches_of given) (cells_of cells) (branches_of left))
+    → Each cells (HasLowestNormal p) → Each left (IsLeft p given) → IsOfLeft p left stopped.cause → IsStopped p given stopped
+stopped_with p given left cells stopped e f keeps normals led cause = record {
+  cells = λ share gives.
+      subst (λ l. Keeps share (branches_of given) (cells_of stopped.found.cells.items) (branches_of l)) (sym e)
+      (subst (λ l. Keeps share (branches_of given) (cells_of l) (branches_of left)) (sym f) (keeps share gives));
+  normals = subst (λ l. Each l (HasLowestNormal p)) (sym f) normals;
+  left = subst (λ l. Each l (IsLeft p given)) (sym e) led;
+  cause = subst (λ l. IsOfLeft p l stopped.cause) (sym e) cause;
+}

@@ -1,5 +1,5 @@
 -- a turn of the search: the last branch is expanded
-use Rattle.std.proofs.Common.{min, ◌≡◌, ◌⊎◌, ℕ, ◌+◌, ◌<◌, List, [], ◌∷◌, ◌++◌, map, arith, refl, sym, ap, subst, ◌∙◌, inl, inr, append-nil}
+use Rattle.std.proofs.Common.{min, ◌≡◌, ◌⊎◌, ℕ, ◌+◌, ◌<◌, ◌≤◌, List, [], ◌∷◌, ◌++◌, map, arith, refl, sym, ap, subst, ◌∙◌, inl, inr, append-nil}
 use Rattle.std.specs.Prelude.{Contains, IsPermutation, flat_map, sum_by}
 use Rattle.std.proofs.lemmas.List.{map-append}
 use Rattle.int_vectors.specs.Vectors.{Each}
@@ -15,6 +15,7 @@ use Rattle.cayley.specs.Shares.{IsTrueBranch, IsOwn, IsChildren, IsLed, GivesSha
 use Rattle.cayley.proofs.Lists.Each.{each_append}
 use Rattle.cayley.proofs.Life.Decisions.{dec_of}
 use Rattle.cayley.proofs.Life.LifeLaws.{child_law, share_law}
+use Rattle.cayley.proofs.Life.Targets.{target_law}
 use Rattle.cayley.proofs.Searching.Listing.{Has}
 use Rattle.cayley.proofs.Searching.Members.{has_contains, contains_has, has_left, has_right, has_either, has_map}
 use Rattle.cayley.proofs.Searching.Shares.{true_of, list_has, no_share}
@@ -154,6 +155,12 @@ turn_left p given left rest b e popped is l =
     each_append (IsLeft p given) rest (opened e) (rest_left p given left rest b popped l) (opened_left p given b e is (last_left p given left rest b popped l))
 
 -- ---- steps and solves
+pub count_begin : (start : ℕ) → IsCount start start 0
+count_begin start = (0, omega arith, omega arith)
+
+pub count_few : (start now solves : ℕ) → IsCount start now solves → solves ≤ top
+count_few start now solves c = let e = c.2 in omega (arith, e)
+
 pub turn_count : (p : Problem) (b : Branch) (start old new solves after : ℕ) → (IsOf p b.cell → new ≡ old + 1) → (¬ (IsOf p b.cell) → new ≡ old) → Solved p top (branch_of b) solves after
     → IsCount start old solves → IsCount start new after
 turn_count p b start old new solves after step stay s c = elim (dec_of p b.cell) [
