@@ -1,6 +1,6 @@
 -- a turn of the search: the last branch is expanded
-use Rattle.std.proofs.Common.{min, ◌≡◌, ◌⊎◌, ℕ, ◌+◌, ◌<◌, ◌≤◌, List, [], ◌∷◌, ◌++◌, map, arith, refl, sym, ap, subst, ◌∙◌, inl, inr, append-nil}
-use Rattle.std.specs.Prelude.{Contains, IsPermutation, flat_map, sum_by}
+use Rattle.std.proofs.Common.{◌≡◌, ◌⊎◌, ℕ, ◌+◌, ◌<◌, ◌≤◌, List, [], ◌∷◌, ◌++◌, map, arith, refl, sym, ap, subst, ◌∙◌, inl, inr, append-nil}
+use Rattle.std.specs.Prelude.{sum_by}
 use Rattle.std.proofs.lemmas.List.{map-append}
 use Rattle.int_vectors.specs.Vectors.{Each}
 use Rattle.cayley.specs.declared.found.FoundCell.{FoundCell}
@@ -17,7 +17,7 @@ use Rattle.cayley.proofs.Life.Decisions.{dec_of}
 use Rattle.cayley.proofs.Life.LifeLaws.{child_law, share_law}
 use Rattle.cayley.proofs.Life.Targets.{target_law}
 use Rattle.cayley.proofs.Searching.Listing.{Has}
-use Rattle.cayley.proofs.Searching.Members.{has_contains, contains_has, has_left, has_right, has_either, has_map}
+use Rattle.cayley.proofs.Searching.Members.{has_contains, contains_has, has_left, has_right, has_map}
 use Rattle.cayley.proofs.Searching.Shares.{true_of, list_has, no_share}
 use Rattle.cayley.proofs.Searching.Steps.{Keeps, Counts, weight, keeps_step, keeps_drop, inner_falls, drop_falls, counts_step, counts_drop, led_given, led_child}
 use Rattle.searcher.specs.declared.branches.Branch.{Branch}

@@ -43,7 +43,7 @@ loop-branch-smaller g c =
     let put = c.put.ensures.left ∙ ap (λ l. l ++ opened e) c.has_room.ensures.left in
     subst (λ l. sum_by (weight (size_in p)) (branches_of l) < sum_by (weight (size_in p)) (branches_of c.loop-branch.left.items)) (sym put)
     (turn_falls p (is_still_problem p valid c.requires.still) c.in-Some.branch c.loop-branch.left.items c.pop.new.self.items c.in-Some.ensures.items e c.in-Ok.ensures.answer (size_in p)
-        (size_in_gives p (well_of p valid)))
+    (size_in_gives p (well_of p valid)))
 
 pub loop-branch-preserved : goal.loop-branch-preserved
 loop-branch-preserved g c =
@@ -69,7 +69,7 @@ loop-branch-preserved g c =
       counts = λ size cost gives costs.
           subst (λ l. Counts cost top (branches_of given) c.count_after-solves.result (branches_of l)) (sym put)
           (turn_counts p still b left rest popped e told size cost gives costs given c.loop-branch.solves c.count_after-solves.result c.count_after-solves.ensures
-              (before.counts size cost gives costs));
+          (before.counts size cost gives costs));
       count = turn_count p b c.args.steps.now c.loop-branch.steps c.expand.new.steps c.loop-branch.solves c.count_after-solves.result c.expand.ensures.step c.expand.ensures.no_step
           c.count_after-solves.ensures before.count;
       normals = subst (λ l. Each l (HasLowestNormal p)) (sym kept) (turn_normals p b e told cells before.normals);
