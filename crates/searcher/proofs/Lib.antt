@@ -11,3 +11,7 @@ mod FitWorkings
 mod FileTargets
 mod EndCauses
 mod SettledBranches
+pub mod Sizes
+pub mod Orders
+pub mod Turns
+pub mod Results

@@ -7,16 +7,32 @@ use Rattle.cayley.specs.Cells.{Cell, IsOf, IsLess}
 use Rattle.cayley.specs.Shares as shares
 use Rattle.cayley.specs.Shares.{IsTrueBranch, IsShare, IsSize, IsLed, GivesShares, GivesSizes, GivesCosts}
 use Rattle.searcher.specs.declared.branches.Branch.{Branch}
+use Rattle.searcher.specs.declared.expansions.Expansion.{Expansion}
+use Rattle.searcher.specs.declared.expansions.Expansion.TheVariants.{Inner, Target, Endless, Stranger}
 use Rattle.searcher.specs.declared.expansions.HaltCause.{HaltCause}
 use Rattle.searcher.specs.declared.expansions.HaltCause.TheVariants.{Tie, Overflow, OutOfMemory}
 use Rattle.searcher.specs.declared.searching.Found.{Found}
 use Rattle.searcher.specs.declared.searching.Stopped.{Stopped}
 use Rattle.searcher.specs.Workings.{FitsWorking}
-use Rattle.searcher.specs.Branches.{branch_of, branches_of}
+use Rattle.searcher.specs.Branches.{branch_of, branches_of, children_of}
 use Rattle.searcher.specs.Expansions.{HasLowestNormal}
 
 abbrev pub cells_of : List FoundCell → List Cell
 cells_of found = map (λ (f : FoundCell). f.cell) found
+
+-- the branches that an expansion leaves to do
+abbrev pub opened : Expansion → List Branch
+opened (Inner children) = children_of children
+opened (Target found) = []
+opened Endless = []
+opened (Stranger branch) = []
+
+-- the mixed cell that it finds
+abbrev pub found_in : Expansion → List FoundCell
+found_in (Inner children) = []
+found_in (Target found) = found ∷ []
+found_in Endless = []
+found_in (Stranger branch) = []
 
 -- cell order, in which a cell may stand twice
 abbrev pub NeverFalls : List Cell → Type 0

@@ -18,4 +18,6 @@ pub use expansions::{Children, Expansion, Halt, HaltCause, expand};
 pub use searching::{Found, Stopped, search_alone};
 
 #[cfg(test)]
+mod search_tests;
+#[cfg(test)]
 mod tests;

@@ -1,11 +1,13 @@
-ghost use Rattle.std.specs.Prelude.{◌≡◌, ◌+◌, ◌-◌, ◌^◌, ℕ, min, IfOk, IfErr, MatchResult};
+ghost use Rattle.std.specs.Prelude.{◌≡◌, ◌+◌, ◌≤◌, ◌++◌, IfOk, IfErr, IsTrue, MatchResult, IsPermutation, vec_len, vec_capacity};
 ghost use Rattle.cayley.specs.Problems.{IsStill};
+ghost use Rattle.cayley.specs.Shares.{Solved};
 ghost use Rattle.cayley.specs.Ties.{IsTieFree};
+ghost use Rattle.searcher.specs.Branches.{branch_of, children_of};
 ghost use Rattle.searcher.specs.Expansions.{ShowsTieAtEnd, HasNoTie};
-ghost use Rattle.searcher.specs.Searches.{IsFound, IsStopped, IsCount, FindsShare, FindsSize};
+ghost use Rattle.searcher.specs.Searches.{IsFound, IsStopped, IsCount, FindsShare, FindsSize, NeverFalls, cells_of, opened, found_in, top};
 
 use crate::branches::Branch;
-use crate::expansions::HaltCause;
+use crate::expansions::{Children, Expansion, HaltCause, expand};
 use cayley::{FoundCell, Problem};
 use cone_walls::Steps;
 use std::alloc::Global;
@@ -28,6 +30,69 @@ pub struct Stopped {
     pub left: Vec<Branch>,
     /// What was found before, in no order.
     pub found: Found,
+}
+
+// Room for two branches and a cell. The branches keep the room that they have.
+fn has_room(left: &mut Vec<Branch>, cells: &mut Vec<FoundCell>) -> bool
+    ensures left { left.new.items ≡ left.old.items }
+    ensures cells { cells.new.items ≡ cells.old.items }
+    ensures kept { (vec_len left.new ≡ vec_len left.old) × (vec_capacity left.old ≤ vec_capacity left.new) }
+    ensures room { IsTrue result → (vec_len left.new + 2 ≤ vec_capacity left.new) × (vec_len cells.new + 1 ≤ vec_capacity cells.new) }
+{
+    left.reserve(2).is_ok() && cells.reserve(1).is_ok()
+}
+
+// Puts the children at the end, the last of them last.
+fn put_children(left: &mut Vec<Branch>, children: Children)
+    requires { vec_len left.old + 2 ≤ vec_capacity left.old }
+    ensures { left.new.items ≡ left.old.items ++ children_of children }
+{
+    match children {
+        Children::None => {}
+        Children::One(first) => {
+            let _ = left.push(first);
+        }
+        Children::Two(first, second) => {
+            let _ = left.push(first);
+            let _ = left.push(second);
+        }
+    }
+}
+
+// Puts the children among the branches and a mixed cell among the cells.
+fn put(left: &mut Vec<Branch>, cells: &mut Vec<FoundCell>, expansion: Expansion)
+    requires branches { vec_len left.old + 2 ≤ vec_capacity left.old }
+    requires cell { vec_len cells.old + 1 ≤ vec_capacity cells.old }
+    ensures left { left.new.items ≡ left.old.items ++ opened expansion }
+    ensures cells { cells.new.items ≡ cells.old.items ++ found_in expansion }
+{
+    match expansion {
+        Expansion::Inner { children } => put_children(left, children),
+        Expansion::Target(found) => {
+            let _ = cells.push(found);
+        }
+        Expansion::Endless => {}
+        Expansion::Stranger { branch: _stranger } => {}
+    }
+}
+
+// The count after an expansion of the branch.
+fn count_after(problem: &Problem, branch: &Branch, solves: u64) -> u64
+    ensures { Solved problem.now top (branch_of branch.now) solves result }
+{
+    if problem.contains(branch.cell()) {
+        solves.saturating_add(1)
+    } else {
+        solves
+    }
+}
+
+// Puts the cells into cell order, in place.
+fn put_in_order(cells: &mut Vec<FoundCell>)
+    ensures order { NeverFalls (cells_of cells.new.items) }
+    ensures same { IsPermutation cells.old.items cells.new.items }
+{
+    cells.sort_unstable_by(|x, y| x.cell.cmp(&y.cell));
 }
 
 /// Expands the last branch of the list, again and again, until none is left. It returns on every
@@ -54,10 +119,33 @@ pub fn search_alone<L: Ledger>(
     ensures tie { IfErr result (λ s. ShowsTieAtEnd problem.now s.cause) }
     ensures untied { IsTieFree problem.now → IfErr result (λ s. HasNoTie s.cause) }
 {
-    let cells = Vec::new(alloc);
-    Err(Stopped {
-        cause: HaltCause::OutOfMemory,
-        left: branches,
-        found: Found { cells, solves: 0 },
-    })
+    let _dim = problem.dim();
+    let mut left = branches;
+    let mut cells = Vec::new(alloc);
+    let mut solves = 0;
+    while let Some(branch) = left.pop() {
+        if !has_room(&mut left, &mut cells) {
+            let _ = left.push(branch);
+            return Err(Stopped {
+                cause: HaltCause::OutOfMemory,
+                left,
+                found: Found { cells, solves },
+            });
+        }
+        solves = count_after(problem, &branch, solves);
+        let expansion = match expand(alloc, problem, branch, steps) {
+            Ok(expansion) => expansion,
+            Err(halt) => {
+                let _ = left.push(halt.branch);
+                return Err(Stopped {
+                    cause: halt.cause,
+                    left,
+                    found: Found { cells, solves },
+                });
+            }
+        };
+        put(&mut left, &mut cells, expansion);
+    }
+    put_in_order(&mut cells);
+    Ok(Found { cells, solves })
 }

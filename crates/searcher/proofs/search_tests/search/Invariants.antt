@@ -1,0 +1,4 @@
+use Rattle.searcher.proofs.search_tests.search.Given as goal
+
+abbrev pub ghosts-searched : goal.ghosts-searched
+ghosts-searched a = record { name = a.blank.name; parts = a.blank.parts }
