@@ -1,5 +1,5 @@
 -- the lines of one way before and after their end
-use Rattle.std.proofs.Common.{◌≡◌, ◌⊎◌, inl, inr, ℕ, zero, suc, ◌+◌, ◌-◌, ◌<◌, List, length, Option, Some, None, ℤ, pos, neg_ℤ, ◌+ℤ◌, ◌-ℤ◌, ◌*ℤ◌, ◌<ℤ◌, refl, sym, ap, subst, ◌∙◌, arith}
+use Rattle.std.proofs.Common.{◌≡◌, ◌⊎◌, inl, inr, ℕ, zero, suc, ◌<◌, List, length, Option, Some, None, ℤ, pos, neg_ℤ, ◌+ℤ◌, ◌*ℤ◌, ◌<ℤ◌, refl, sym, ap, subst, ◌∙◌, arith}
 use Rattle.std.proofs.lemmas.Int.{ints}
 use Rattle.wide_int.proofs.Ring.{zero_mul_ℤ}
 use Rattle.wide_int.proofs.Order.{mul_cancel}
@@ -9,18 +9,16 @@ use Rattle.lex_height.specs.Values as lex
 use Rattle.lex_height.specs.Order.{IsLess, IsSame}
 use Rattle.lex_height.specs.Order as order
 use Rattle.lex_height.proofs.Signs.{has_sign, past_end}
-use Rattle.lex_height.proofs.Comparing.{less_less, less_same, same_less, same_same, same_back, not_below_itself, less_not_same, less_not_back, less_turned, same_turned, less_as, same_as}
+use Rattle.lex_height.proofs.Comparing.{less_less, less_same, same_less, same_same, same_back, less_not_same, less_not_back, same_turned, same_as}
 use Rattle.crossing.specs.declared.line.WallLine.{WallLine}
 use Rattle.crossing.specs.declared.leaders.Way.{Way}
-use Rattle.crossing.specs.declared.leaders.Way.TheVariants.{Falling, Rising}
-use Rattle.crossing.specs.declared.leaders.Leaders.{Leaders}
-use Rattle.crossing.specs.declared.leaders.Leaders.TheVariants as led
+use Rattle.crossing.specs.declared.leaders.Way.TheVariants.{Rising}
 use Rattle.crossing.specs.Lines.{constant, value, IsFlat, IsZeroAt}
-use Rattle.crossing.specs.Leading.{steep, start, Goes, IsBefore, IsLed, nth, first_of}
+use Rattle.crossing.specs.Leading.{steep, start, Goes, IsLed, nth, first_of}
 use Rattle.crossing.specs.Ends.{led_by, IsSunk}
 use Rattle.crossing.specs.Ties.{IsNotNegative}
 use Rattle.crossing.proofs.Lists.{zero_at, zero_from, positive_at, positive_from, either}
-use Rattle.crossing.proofs.Values.{turn, value_at, value_is, zero_ratio, ratio_zero, positive_ratio, double_neg, turned_less, less_turn, level_start, level_value}
+use Rattle.crossing.proofs.Values.{turn, value_at, value_is, zero_ratio, ratio_zero, positive_ratio, double_neg, level_start, level_value}
 use Rattle.crossing.proofs.Found.{first_goes, none_before}
 
 -- ---- the sign of a line at a time
@@ -151,12 +149,12 @@ module _ (way : Way) (lines : List WallLine) (u : lex.Value) (low : lex.IsLowest
         let ty = zero_ratio way y t q zy in
         elim (either (constant x) (steep way x) (constant y) (steep way y)) [
           | inl l ↦ absurd (nl (
-            same_less U u.den (start x) (steep way x) T q low.0.2 leader.1 pq at_leader
-            (less_same (start x) (steep way x) (start y) (steep way y) T q leader.1 g pq l (same_back T q (start y) (steep way y) ty))
-          ))
+              same_less U u.den (start x) (steep way x) T q low.0.2 leader.1 pq at_leader
+              (less_same (start x) (steep way x) (start y) (steep way y) T q leader.1 g pq l (same_back T q (start y) (steep way y) ty))
+              ))
           | inr s ↦ elim s [
             | inl e ↦ same_same T q (start y) (steep way y) U u.den pq g low.0.2 ty
-              (same_same (start y) (steep way y) (start x) (steep way x) U u.den g leader.1 low.0.2 (same_back (start x) (steep way x) (start y) (steep way y) e) (same_back U u.den (start x) (steep way x) at_leader))
+                (same_same (start y) (steep way y) (start x) (steep way x) U u.den g leader.1 low.0.2 (same_back (start x) (steep way x) (start y) (steep way y) e) (same_back U u.den (start x) (steep way x) at_leader))
             | inr l ↦ absurd (none_before way lines (led_by a b) a (first_led a b) led k lt g l)
           ]
         ]

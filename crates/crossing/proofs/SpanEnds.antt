@@ -1,20 +1,18 @@
 -- the span of the lines, and its two ends
-use Rattle.std.proofs.Common.{◌≡◌, ◌⊎◌, inl, inr, ℕ, zero, suc, ◌+◌, ◌-◌, ◌<◌, List, [], ◌∷◌, length, Option, Some, None, ℤ, pos, neg_ℤ, ◌+ℤ◌, ◌-ℤ◌, ◌*ℤ◌, ◌<ℤ◌, refl, sym, ap, subst, ◌∙◌, arith}
+use Rattle.std.proofs.Common.{◌≡◌, inl, inr, ℕ, ◌<◌, List, [], ◌∷◌, length, Option, Some, None, ℤ, pos, neg_ℤ, ◌+ℤ◌, ◌-ℤ◌, ◌*ℤ◌, ◌<ℤ◌, sym, ap, subst, ◌∙◌, arith}
 use Rattle.std.proofs.lemmas.Int.{ints}
 use Rattle.std.proofs.lemmas.List.{get_or_default}
 use Rattle.wide_int.proofs.Ring.{as_D, Ds, same_D}
 use Rattle.wide_int.proofs.Order.{sign_cases, mul_pos_ℤ}
-use Rattle.int_vectors.specs.Vectors.{IsZero, IsPositive, add, at}
+use Rattle.int_vectors.specs.Vectors.{add, at}
 use Rattle.lex_height.specs.Entries.{entry, entries, at_rank}
 use Rattle.lex_height.specs.Values as lex
-use Rattle.lex_height.specs.Order.{IsLess, IsSame}
+use Rattle.lex_height.specs.Order.{IsLess}
 use Rattle.lex_height.proofs.Ranks.{entries_is}
-use Rattle.lex_height.proofs.Comparing.{less_less, less_same, same_less, same_same, same_back, not_below_itself, less_as}
+use Rattle.lex_height.proofs.Comparing.{less_less, less_same, same_back, not_below_itself, less_as}
 use Rattle.crossing.specs.declared.line.WallLine.{WallLine}
-use Rattle.crossing.specs.declared.leaders.Way.{Way}
 use Rattle.crossing.specs.declared.leaders.Way.TheVariants.{Falling, Rising}
 use Rattle.crossing.specs.declared.ends.End.{End}
-use Rattle.crossing.specs.Lines.{value, IsEarlier}
 use Rattle.crossing.specs.Places.{origin}
 use Rattle.crossing.specs.Leading.{nth}
 use Rattle.crossing.specs.Ends.{IsEnd, IsSunk, AreCrossed}

@@ -1,31 +1,28 @@
 -- the tie that is named for the lines
-use Rattle.std.proofs.Common.{◌≡◌, ◌≢◌, ◌⊎◌, inl, inr, ℕ, zero, suc, ◌+◌, ◌-◌, ◌<◌, ◌≤◌, min, List, [], length, Option, Some, None, MatchOption, Bool, false, IsTrue, HoldsAt, true≢false, ℤ, pos, neg_ℤ, ◌*ℤ◌, ◌<ℤ◌, refl, sym, ap, ap₂, subst, ◌∙◌, arith}
+use Rattle.std.proofs.Common.{◌≡◌, ◌≢◌, ◌⊎◌, inl, inr, ℕ, zero, suc, ◌+◌, ◌-◌, ◌<◌, ◌≤◌, min, List, [], length, Option, Some, None, MatchOption, HoldsAt, ℤ, pos, ◌*ℤ◌, ◌<ℤ◌, refl, sym, subst, ◌∙◌, arith}
 use Rattle.std.proofs.lemmas.Int.{ints}
-use Rattle.std.proofs.lemmas.List.{get_or_default}
 use Rattle.wide_int.proofs.Order.{sign_cases}
 use Rattle.wide_int.proofs.Ring.{zero_mul_ℤ}
 use Rattle.int_vectors.specs.Vectors.{IsZero, at}
 use Rattle.lex_height.specs.Entries.{entry, entries}
 use Rattle.lex_height.specs.Values as lex
-use Rattle.lex_height.specs.Order.{IsLess, IsSame}
+use Rattle.lex_height.specs.Order.{IsSame}
 use Rattle.lex_height.proofs.Ranks.{entries_is}
 use Rattle.lex_height.proofs.Comparing.{same_same, same_back, less_not_same}
 use Rattle.crossing.specs.declared.line.WallLine.{WallLine}
 use Rattle.crossing.specs.declared.leaders.Way.TheVariants.{Falling, Rising}
-use Rattle.crossing.specs.declared.leaders.Leaders.TheVariants as led
 use Rattle.crossing.specs.declared.ends.End.{End}
 use Rattle.crossing.specs.declared.ends.Pair.{Pair}
-use Rattle.crossing.specs.declared.ties.Tie.{Tie}
-use Rattle.crossing.specs.Lines.{value, IsEarlier, IsFlat, IsZeroAt}
-use Rattle.crossing.specs.Places.{HasAt, IsNowhere, IsFirst, IsOnly, AreFirstTwo, origin}
+use Rattle.crossing.specs.Lines.{IsFlat, IsZeroAt}
+use Rattle.crossing.specs.Places.{HasAt, IsNowhere, origin}
 use Rattle.crossing.specs.Leading.{Goes, IsLed, nth}
-use Rattle.crossing.specs.Ends.{led_by, IsEnd, IsSunk, AreCrossed, IsEndTime, pair_with, pair_of, earlier_of, IsFirstPair, IsMeeting}
-use Rattle.crossing.specs.Ties.{IsZeroThen, InSpan, IsLowerEnd, IsUpperEnd, IsFirstEnd, NoLowerTie, IsTieAt, IsTie, HasNoTie}
+use Rattle.crossing.specs.Ends.{led_by, IsEnd, IsSunk, AreCrossed, IsEndTime, pair_with, pair_of, earlier_of, IsFirstPair}
+use Rattle.crossing.specs.Ties.{IsZeroThen, InSpan, IsLowerEnd, IsFirstEnd, NoLowerTie, IsTie, HasNoTie}
 use Rattle.crossing.proofs.Lists.{zero_from, earlier_less, less_earlier, either}
 use Rattle.crossing.proofs.Values.{turned_less}
-use Rattle.crossing.proofs.Once.{time_once, has_at}
+use Rattle.crossing.proofs.Once.{time_once}
 use Rattle.crossing.proofs.Leading.{same_or_not}
-use Rattle.crossing.proofs.Found.{GoesAt, first_goes, one_only, two_first}
+use Rattle.crossing.proofs.Found.{GoesAt, one_only, two_first}
 use Rattle.crossing.proofs.ExitRule.{is_flat}
 use Rattle.crossing.proofs.OneWay.{level_flat, zero_there, zero_same, turned_same, leader}
 use Rattle.crossing.proofs.SpanEnds.{moment, over, NotBefore, NotAfter, sunk_empty, crossed_empty, after_lower, before_upper, in_span, no_lower, no_upper, lower_end, upper_end}
@@ -223,7 +220,7 @@ module _ (lines : List WallLine) (lower upper : Option End) (rise : IsEnd Rising
       meeting_tie l u e f same pair h = elim (less_or_not l.first u.first) [
         | inl lt ↦ tie pair l.first (earlier_of l.second u.first) (h.0 lt) (merged A B C l.first u.first u.second (leads_falling lines u hu) which from too lt l.second (leads_rising lines l hl))
         | inr le ↦ tie pair u.first (earlier_of u.second l.first) (h.1 (λ lt. omega (arith, le, lt)))
-          (merged B A C u.first l.first l.second (leads_rising lines l hl) (λ o k. swap (which o k)) too from (strict le) u.second (leads_falling lines u hu))
+            (merged B A C u.first l.first l.second (leads_rising lines l hl) (λ o k. swap (which o k)) too from (strict le) u.second (leads_falling lines u hu))
       ]
         where
           A : ℕ → Type 0
@@ -263,10 +260,10 @@ module _ (lines : List WallLine) (lower upper : Option End) (rise : IsEnd Rising
           strict : u.first ≤ l.first → u.first < l.first
           strict le = elim (same_or_not u.first l.first) [
             | inl s ↦ absurd (
-              let g = (leader Rising lines l.time hl.0 l.first l.second hl.1 hl.2).1 in
-              let d = subst (λ k. Goes Falling (nth lines k)) s (leader Falling lines u.time hu.0 u.first u.second hu.1 hu.2).1 in
-              omega (arith, ints, g, d)
-            )
+                let g = (leader Rising lines l.time hl.0 l.first l.second hl.1 hl.2).1 in
+                let d = subst (λ k. Goes Falling (nth lines k)) s (leader Falling lines u.time hu.0 u.first u.second hu.1 hu.2).1 in
+                omega (arith, ints, g, d)
+                )
             | inr n ↦ next u.first l.first le n
           ]
             where
@@ -285,12 +282,18 @@ module _ (lines : List WallLine) (lower upper : Option End) (rise : IsEnd Rising
             let hl = subst (IsEnd Rising lines) e rise in
             let k = lower_end lines lower upper rise fall floating open_ l e in (
               hl.0,
-              (moving, inl (k, two_leads lines (HasAt (GoesAt Rising l.time) lines) (HasAt (IsZeroThen (moment l) (over l)) lines) l.first s l.second two (leads_rising lines l hl)
-              (λ o z. elim (kind (moment l) (over l) hl.0.0.2 k.0 o z) [
-                | inl r ↦ (subst (λ x. RisesHere x (moment l) (over l) o) e r).0
-                | inr f ↦ absurd (apart (subst (λ x. Meet x upper) (sym e) (falls_meet l hl.0 upper fall o f)))
-              ])
-              (λ o z. (z.0, z.1, z.2.1)))),
+              (
+                moving,
+                inl (
+                  k,
+                  two_leads lines (HasAt (GoesAt Rising l.time) lines) (HasAt (IsZeroThen (moment l) (over l)) lines) l.first s l.second two (leads_rising lines l hl)
+                      (λ o z. elim (kind (moment l) (over l) hl.0.0.2 k.0 o z) [
+                        | inl r ↦ (subst (λ x. RisesHere x (moment l) (over l) o) e r).0
+                        | inr f ↦ absurd (apart (subst (λ x. Meet x upper) (sym e) (falls_meet l hl.0 upper fall o f)))
+                      ])
+                      (λ o z. (z.0, z.1, z.2.1)),
+                ),
+              ),
             )
 
         -- ---- one line at most there
@@ -331,12 +334,21 @@ module _ (lines : List WallLine) (lower upper : Option End) (rise : IsEnd Rising
               let hu = subst (IsEnd Falling lines) e fall in
               let k = upper_end lines lower upper rise fall floating open_ u e in (
                 hu.0,
-                (moving, inr (no_lower_tie, (k, two_leads lines (HasAt (GoesAt Falling u.time) lines) (HasAt (IsZeroThen (moment u) (over u)) lines) u.first s u.second two (leads_falling lines u hu)
-                (λ o z. elim (kind (moment u) (over u) hu.0.0.2 k.0 o z) [
-                  | inl r ↦ absurd (apart (subst (λ x. Meet lower x) (sym e) (rises_meet u hu.0 lower rise o r)))
-                  | inr f ↦ (subst (λ x. FallsHere x (moment u) (over u) o) e f).0
-                ])
-                (λ o z. (z.0, z.1, z.2.1))))),
+                (
+                  moving,
+                  inr (
+                    no_lower_tie,
+                    (
+                      k,
+                      two_leads lines (HasAt (GoesAt Falling u.time) lines) (HasAt (IsZeroThen (moment u) (over u)) lines) u.first s u.second two (leads_falling lines u hu)
+                          (λ o z. elim (kind (moment u) (over u) hu.0.0.2 k.0 o z) [
+                            | inl r ↦ absurd (apart (subst (λ x. Meet lower x) (sym e) (rises_meet u hu.0 lower rise o r)))
+                            | inr f ↦ (subst (λ x. FallsHere x (moment u) (over u) o) e f).0
+                          ])
+                          (λ o z. (z.0, z.1, z.2.1)),
+                    ),
+                  ),
+                ),
               )
 
           pub no_tie : pair_of upper ≡ None → HasNoTie lines

@@ -11,7 +11,7 @@ use Rattle.crossing.specs.Places.{IsNowhere, origin}
 use Rattle.crossing.specs.Leading.{nth}
 use Rattle.crossing.specs.Ends.{IsEnd, IsSunk, AreCrossed, pair_with, pair_of, IsMeeting}
 use Rattle.crossing.specs.Ties.{IsTie, HasNoTie}
-use Rattle.crossing.proofs.TieRule.{Meet, meeting_tie, lower_tie, upper_tie, no_tie, inside}
+use Rattle.crossing.proofs.TieRule.{Meet, meeting_tie, lower_tie, upper_tie, no_tie}
 
 pub none_sunk : (lines : List WallLine) (b : Bool) → ((k : ℕ) × (k < length lines) × HoldsAt IsSunk lines k → IsTrue b) → b ≡ false → (k : ℕ) → k < length lines → ¬ (IsSunk (nth lines k))
 none_sunk lines b f e k lt h = true≢false (sym (f (k, lt, λ d. subst IsSunk (get_or_default lines k origin d lt) h)) ∙ e)

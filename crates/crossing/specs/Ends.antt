@@ -1,5 +1,5 @@
 -- Where the time on which no line of one way is negative ends; no public clause cites these.
-use Rattle.std.specs.Prelude.{◌≡◌, ◌≢◌, ℕ, ◌<◌, min, ℤ, pos, List, [], length, Option, Some, None, MatchOption}
+use Rattle.std.specs.Prelude.{◌≡◌, ◌≢◌, ℕ, ◌<◌, min, pos, List, [], length, Option, Some, None, MatchOption}
 use Rattle.int_vectors.specs.Vectors.{IsPositive}
 use Rattle.lex_height.specs.Values as lex
 use Rattle.crossing.specs.declared.line.WallLine.{WallLine}

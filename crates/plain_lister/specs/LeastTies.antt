@@ -1,7 +1,8 @@
 -- The least cell that has a tie or doesn't fit.
-use Rattle.std.specs.Prelude.{◌⊎◌, Option, None, Some}
+use Rattle.std.specs.Prelude.{◌≡◌, ◌⊎◌, Option, None, Some}
 use Rattle.std.specs.Option.{option_map}
 use Rattle.cayley.specs.declared.found.TieProof.{TieProof}
+use Rattle.lex_height.specs.Entries.{entries}
 use Rattle.cayley.specs.Times.{Time}
 use Rattle.cayley.specs.Problems.{Problem}
 use Rattle.cayley.specs.Cells.{Cell, IsOf, IsLess}
@@ -12,6 +13,7 @@ use Rattle.cayley.specs.TieProofs.{spot_of, IsTimeOf}
 use Rattle.cone_walls.specs.Workings.{FitsWallWorking}
 use Rattle.plain_lister.specs.declared.faults.PlainFault.{PlainFault}
 use Rattle.plain_lister.specs.declared.faults.PlainFault.TheVariants.{TooMany, Overflow, OutOfMemory}
+use Rattle.plain_lister.specs.declared.naming.NamedTie.{NamedTie}
 use Rattle.plain_lister.specs.Choices.{HasTooMany, IsExcess}
 use Rattle.plain_lister.specs.Lists.{AllFit}
 
@@ -45,3 +47,8 @@ abbrev pub IsTieFault : Problem → PlainFault → Type 0
 IsTieFault p (TooMany choices) = HasTooMany p × IsExcess p choices
 IsTieFault p (Overflow cell) = ¬ (HasTooMany p) × IsLeastTiedOrUnfit p cell × ¬ (FitsWallWorking p cell)
 IsTieFault p OutOfMemory = Unit {0}
+
+-- what is found of one cell, at a time in lowest terms: no tie, or the tie that is named for it
+abbrev pub IsNamedOf : Problem → Cell → Option NamedTie → Type 0
+IsNamedOf p cell None = ¬ (HasTie p cell)
+IsNamedOf p cell (Some tie) = (t : Time) × (t.entries ≡ entries tie.time.parts) × (t.over ≡ tie.time.den) × IsNamedTie p cell t (spot_of tie.first) (option_map spot_of tie.second)

@@ -4,3 +4,4 @@ pub mod Wheels
 pub mod Lists
 pub mod Progress
 pub mod LeastTies
+pub mod TieProgress

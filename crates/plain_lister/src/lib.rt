@@ -7,6 +7,7 @@ mod counting;
 mod faults;
 mod judging;
 mod lists;
+mod naming;
 mod ties;
 mod trying;
 mod wheels;
