@@ -100,12 +100,14 @@ module _ (p : Problem) (cell : Cell) (lines : List WallLine) (places : AreOfFurt
     pub two_spots : (i j : ℕ) → AreFirstTwo P lines i j → named.AreFirstTwo Q (spot_at lines i) (spot_at lines j)
     two_spots i j h = (
       first_spot i h.0,
-      (there j h.2, earlier i j h.0.0.0 h.1 h.2.1),
-      λ z q e.
-          let r = back z q.0 in
-          let f = subst (λ y. stored.IsEarlier (spot_at lines i) y) (sym r.2) q.1 in
-          let g = subst (λ y. stored.IsEarlier y (spot_at lines j)) (sym r.2) e in
-          h.3 r.0 (sooner i r.0 h.0.0.0 r.1.0 h.0.0.1 r.1.1 f) (sooner r.0 j r.1.0 h.2.0 r.1.1 h.2.1 g) r.1,
+      (
+        (there j h.2, earlier i j h.0.0.0 h.1 h.2.1),
+        λ z q e.
+            let r = back z q.0 in
+            let f = subst (λ y. stored.IsEarlier (spot_at lines i) y) (sym r.2) q.1 in
+            let g = subst (λ y. stored.IsEarlier y (spot_at lines j)) (sym r.2) e in
+            h.3 r.0 (sooner i r.0 h.0.0.0 r.1.0 h.0.0.1 r.1.1 f) (sooner r.0 j r.1.0 h.2.0 r.1.1 h.2.1 g) r.1,
+      ),
     )
 
     -- and back

@@ -70,12 +70,9 @@ module _ (p : Problem) (cell : Cell) (well : IsProblem p) (of : IsOf p cell) (in
         place_pair (λ s a c. IsAbove t v.0 s a c ⊎ IsLevel t v.0 s a c) _ p.supports cell of (λ j c f.
             let e : j ≡ suc j - 1 = omega arith in
             subst (λ i. IsAbove t v.0 (support_at p.supports i) (pair_at cell i).0 c ⊎ IsLevel t v.0 (support_at p.supports i) (pair_at cell i).0 c) (sym e)
-            (at_spot v.0 v.1 (suc j, c) (omega arith, subst (λ i. IsFurther p i c) e f))),
+            (at_spot v.0 v.1 (suc j, c) (omega arith, subst (λ i. IsFurtherAt p cell i c) e f))),
       )
     where
-      abbrev IsFurther : Problem → ℕ → ℕ → Type 0
-      IsFurther q i c = IsFurtherAt q cell i c
-
       at_spot : (v : Normal) → IsNormal p cell t v → (x : Spot) → IsFurtherSpot p cell x
           → IsAbove t v (support_at p.supports (x.0 - 1)) (pair_at cell (x.0 - 1)).0 x.1 ⊎ IsLevel t v (support_at p.supports (x.0 - 1)) (pair_at cell (x.0 - 1)).0 x.1
       at_spot v n x f =

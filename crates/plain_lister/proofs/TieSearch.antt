@@ -27,7 +27,7 @@ use Rattle.plain_lister.specs.Wheels.{Show}
 use Rattle.plain_lister.proofs.Odometer.{first_is, have_pairs}
 use Rattle.plain_lister.proofs.Growing.{choice_from, no_going}
 
-abbrev counts_in : Problem → List ℕ
+abbrev pub counts_in : Problem → List ℕ
 counts_in p = map (λ (s : List Point). length s) p.supports
 
 -- ---- one cell
@@ -122,7 +122,7 @@ no_choice_tie p counts e n =
 
 tie_fault : (p : Problem) (fault : PlainFault) → ¬ (HasTooMany p) → IsTieSearchFault p fault → IsTieFault p fault
 tie_fault p (TooMany choices) n h = absurd h
-tie_fault p (Overflow cell) n h = (n, h)
+tie_fault p (Overflow cell) n h = (n, h.0, h.1)
 tie_fault p OutOfMemory n h = tt
 
 pub counted_tie : (p : Problem) (r : Result (Option TieProof) PlainFault) → ¬ (HasTooMany p) → MatchResult r (IsTieAnswer p) (IsTieSearchFault p) → MatchResult r (λ tie. ¬ (HasTooMany p) × IsTieAnswer p tie) (IsTieFault p)
@@ -130,7 +130,7 @@ counted_tie p (Ok tie) n h = (n, h)
 counted_tie p (Err fault) n h = tie_fault p fault n h
 
 module _ (p : Problem) where
-  abbrev Whole : Result (Option TieProof) PlainFault → Type 0
+  abbrev pub Whole : Result (Option TieProof) PlainFault → Type 0
   Whole r = MatchResult r (λ tie. ¬ (HasTooMany p) × IsTieAnswer p tie) (IsTieFault p)
 
   pub answer_free : (r : Result (Option TieProof) PlainFault) → Whole r → IfOk r (λ found. MatchOption found (IsTieFree p) (λ _. Unit {0}))
