@@ -26,8 +26,8 @@ by_points-requires g c =
     let tie = c.in-Some.tie in
     subst (λ l. HasPlaces l tie) (sym c.deref-in-Some.ensures.value) (tie_places ls tie (subst (λ l. IsTie l tie) c.deref.ensures.value c.in-Some.ensures))
 
-pub returns-in-Some : goal.returns-in-Some
-returns-in-Some g c =
+pub returns : goal.returns
+returns g c =
     let r = c.requires in
     let p = c.args.problem.now in
     let cell = c.args.cell.now in

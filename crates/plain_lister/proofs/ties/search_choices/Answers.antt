@@ -49,3 +49,9 @@ pub returns : goal.returns
 returns g c =
     let n : ¬ (IsTrue c.loop-going.going) = search rules in
     gone_tie c.args.problem.now c.loop-going.going c.loop-going.pairs.items n c.loop-going.invariant.clear
+
+pub loop-going-preserved : goal.loop-going-preserved
+loop-going-preserved g c =
+    let h = rw c.in-Ok-Untied.field-0-is at c.in-Ok-Untied.ensures in
+    let counts = c.requires.counts in
+    search (rules, h, counts)
