@@ -1,6 +1,8 @@
-use Rattle.std.proofs.Common.{rules, refl, subst, subst₂, sym}
+use Rattle.std.proofs.Common.{◌≡◌, ◌++◌, take, drop, length, rules, refl, subst, subst₂, sym}
 use Rattle.std.specs.Prelude.{IsTrue}
 use Rattle.plain_lister.specs.Order.{IsChoice}
+use Rattle.plain_lister.specs.Progress.{Tried}
+use Rattle.plain_lister.specs.TieProgress.{AreClear}
 use Rattle.plain_lister.specs.Wheels.{Show}
 use Rattle.plain_lister.proofs.Odometer.{firsts_choice}
 use Rattle.plain_lister.proofs.Growing.{small_counts}
@@ -52,6 +54,15 @@ returns g c =
 
 pub loop-going-preserved : goal.loop-going-preserved
 loop-going-preserved g c =
+    let new = c.take_turn.new in
+    let l = c.loop-going in
+    let ep : take l.pairs.len (new.pairs ++ drop (length new.pairs) l.pairs.items) ≡ new.pairs = search rules in
+    let ew : take l.wheels.len (new.wheels ++ drop (length new.wheels) l.wheels.items) ≡ new.wheels = search rules in
     let h = rw c.in-Ok-Untied.field-0-is at c.in-Ok-Untied.ensures in
-    let counts = c.requires.counts in
-    search (rules, h, counts)
+    let e = sym c.requires.counts in
+    record {
+      choice = λ t.
+          let k = h.0 t in
+          (subst₂ IsChoice e (sym ep) k.0, subst₂ (λ w x. Show c.args.counts.now w x) (sym ew) (sym ep) (subst (λ m. Show m new.wheels new.pairs) e k.1));
+      clear = subst (λ x. AreClear c.args.problem.now (Tried c.in-Ok-Untied.on x)) (sym ep) h.1;
+    }
