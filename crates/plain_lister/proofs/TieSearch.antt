@@ -1,5 +1,5 @@
 -- the least tied cell, as it is searched for in cell order
-use Rattle.std.proofs.Common.{◌≡◌, ◌⊎◌, ◌∙◌, inl, inr, ℕ, ◌+◌, ◌<◌, Bool, true, false, List, map, length, Option, Some, None, MatchOption, Result, Ok, Err, MatchResult, IfOk, IfErr, rules, arith, refl, sym, ap, subst, ℤ}
+use Rattle.std.proofs.Common.{◌≡◌, ◌⊎◌, ◌∙◌, inl, inr, ℕ, ◌+◌, ◌<◌, Bool, true, false, List, [], ◌∷◌, ◌++◌, map, length, take, drop, Option, Some, None, MatchOption, Result, Ok, Err, MatchResult, IfOk, IfErr, rules, arith, refl, sym, ap, subst, ℤ}
 use Rattle.std.specs.Prelude.{IsTrue}
 use Rattle.std.specs.Option.{option_map}
 use Rattle.cayley.specs.declared.found.TieProof.{TieProof}
@@ -155,3 +155,11 @@ module _ (p : Problem) where
   pub answer_refused : (r : Result (Option TieProof) PlainFault) → Whole r → IfErr r (IsTieFault p)
   answer_refused (Ok tie) h = tt
   answer_refused (Err fault) h = h
+
+-- a slice that was written back into a list of its length
+take_front : {A : Type 0} (xs ys : List A) → take (length xs) (xs ++ ys) ≡ xs
+take_front [] ys = refl
+take_front (x ∷ xs) ys = ap (λ l. x ∷ l) (take_front xs ys)
+
+pub written_back : {A : Type 0} (n : ℕ) (xs ys : List A) → length xs ≡ n → take n (xs ++ drop (length xs) ys) ≡ xs
+written_back n xs ys e = subst (λ k. take k (xs ++ drop (length xs) ys) ≡ xs) e (take_front xs (drop (length xs) ys))

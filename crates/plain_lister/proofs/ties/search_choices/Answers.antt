@@ -1,4 +1,4 @@
-use Rattle.std.proofs.Common.{◌≡◌, ◌++◌, take, drop, length, rules, refl, subst, subst₂, sym}
+use Rattle.std.proofs.Common.{◌≡◌, arith, ap, length, rules, refl, subst, subst₂, sym}
 use Rattle.std.specs.Prelude.{IsTrue}
 use Rattle.plain_lister.specs.Order.{IsChoice}
 use Rattle.plain_lister.specs.Progress.{Tried}
@@ -6,7 +6,7 @@ use Rattle.plain_lister.specs.TieProgress.{AreClear}
 use Rattle.plain_lister.specs.Wheels.{Show}
 use Rattle.plain_lister.proofs.Odometer.{firsts_choice}
 use Rattle.plain_lister.proofs.Growing.{small_counts}
-use Rattle.plain_lister.proofs.TieSearch.{begun_tie, going_tie, gone_tie}
+use Rattle.plain_lister.proofs.TieSearch.{begun_tie, going_tie, gone_tie, written_back}
 use Rattle.plain_lister.proofs.ties.search_choices.Goals as goal
 
 pub wheels_of-requires-clause-small : goal.wheels_of-requires-clause-small
@@ -56,8 +56,10 @@ pub loop-going-preserved : goal.loop-going-preserved
 loop-going-preserved g c =
     let new = c.take_turn.new in
     let l = c.loop-going in
-    let ep : take l.pairs.len (new.pairs ++ drop (length new.pairs) l.pairs.items) ≡ new.pairs = search rules in
-    let ew : take l.wheels.len (new.wheels ++ drop (length new.wheels) l.wheels.items) ≡ new.wheels = search rules in
+    let lp : length new.pairs ≡ l.pairs.len = (let a = c.take_turn.auto.pairs in let b = c.deref_mut-in-loop-going.ensures.len in let d = ap length c.deref_mut-in-loop-going.ensures.value in omega (arith, a, b, d)) in
+    let lw : length new.wheels ≡ l.wheels.len = (let a = c.take_turn.auto.wheels in let b = c.deref_mut.ensures.len in let d = ap length c.deref_mut.ensures.value in omega (arith, a, b, d)) in
+    let ep = written_back l.pairs.len new.pairs l.pairs.items lp in
+    let ew = written_back l.wheels.len new.wheels l.wheels.items lw in
     let h = rw c.in-Ok-Untied.field-0-is at c.in-Ok-Untied.ensures in
     let e = sym c.requires.counts in
     record {
