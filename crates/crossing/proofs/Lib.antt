@@ -7,3 +7,7 @@ pub mod Lists
 pub mod Once
 pub mod Parts
 pub mod Values
+pub mod OneWay
+pub mod SpanEnds
+pub mod TieRule
+pub mod TieSteps

@@ -1,8 +1,10 @@
 pub mod Between
+pub mod Ends
 pub mod Entries
 pub mod Exits
 pub mod Found
 pub mod Leading
 pub mod Lines
 pub mod Places
+pub mod Ties
 pub mod Zeros

@@ -34,7 +34,7 @@ pub enum Entry {
 }
 
 // Whether a line is positive at time 0.
-fn is_positive(line: &WallLine) -> bool
+pub fn is_positive(line: &WallLine) -> bool
     requires { FitsLine line.now }
     ensures { IsTrue result ↔ IsPositive (constant line.now) }
 {

@@ -30,7 +30,7 @@ pub enum Exit {
     },
 }
 
-fn is_flat(line: &WallLine) -> bool
+pub fn is_flat(line: &WallLine) -> bool
     requires { FitsLine line.now }
     ensures { IsTrue result ↔ IsFlat line.now }
 {
@@ -41,7 +41,7 @@ fn is_flat(line: &WallLine) -> bool
 }
 
 // The index of the first line that is zero at all times.
-fn first_flat(lines: &[WallLine]) -> Option<usize>
+pub fn first_flat(lines: &[WallLine]) -> Option<usize>
     requires { All FitsLine lines.now }
     ensures { IsFirstFlat lines.now result }
 {

@@ -1,7 +1,7 @@
 ghost use Rattle.std.specs.Prelude.{◌≡◌, List, [], ◌∷◌, ℕ, ℤ, pos, IfOk};
 ghost use Rattle.wide_int.specs.Whole.{FitsWhole};
 
-use crate::{Entry, Exit, Fine, WallLine, entry_of, exit_of};
+use crate::{Entry, Exit, Fine, Tie, WallLine, entry_of, exit_of, tie_of};
 use lex_height::{Lex, LexPart};
 use std::alloc::Global;
 use std::test::Fail;
@@ -189,4 +189,61 @@ fn fine_parts_are_given_back(rt: HostRuntime) -> Result<(), Fail> {
     let parts = fine.into_vec();
     assert_eq!(rt; parts[0], LexPart { rank: 1, num: 2 });
     Ok(())
+}
+
+fn tie(time: i128, first: usize, second: Option<usize>) -> Option<Tie>
+    requires { FitsWhole time }
+{
+    Some(Tie {
+        time: whole(time),
+        first,
+        second,
+    })
+}
+
+#[test]
+fn ties_at_the_ends(rt: HostRuntime) {
+    let alloc = rt.alloc();
+    assert_eq!(rt; tie_of(&[]), None);
+    assert_eq!(rt; tie_of(&[line(alloc, -4, 2), line(alloc, 9, -1)]), None);
+    assert_eq!(rt; tie_of(&[line(alloc, 6, -2), line(alloc, 9, -3)]), tie(3, 1, Some(2)));
+    assert_eq!(rt;
+        tie_of(&[
+            line(alloc, 6, -2),
+            line(alloc, 5, 0),
+            line(alloc, -4, 2),
+            line(alloc, 9, -3),
+            line(alloc, -2, 1)
+        ]),
+        tie(2, 3, Some(5))
+    );
+}
+
+#[test]
+fn ties_of_lines_that_are_never_all_positive(rt: HostRuntime) {
+    let alloc = rt.alloc();
+    assert_eq!(rt; tie_of(&[line(alloc, 0, 1), line(alloc, 0, -1)]), tie(0, 1, Some(2)));
+    assert_eq!(rt;
+        tie_of(&[
+            line(alloc, 4, -2),
+            line(alloc, 5, 0),
+            line(alloc, -4, 2),
+            line(alloc, -2, 1)
+        ]),
+        tie(2, 1, Some(3))
+    );
+    assert_eq!(rt; tie_of(&[line(alloc, -1, 1), line(alloc, 0, -1)]), None);
+    assert_eq!(rt; tie_of(&[line(alloc, 0, 1), line(alloc, 0, -1), line(alloc, -1, 0)]), None);
+}
+
+#[test]
+fn ties_at_all_times(rt: HostRuntime) {
+    let alloc = rt.alloc();
+    assert_eq!(rt; tie_of(&[line(alloc, 0, 0)]), tie(0, 1, None));
+    assert_eq!(rt;
+        tie_of(&[line(alloc, -4, 2), line(alloc, 0, 0), line(alloc, 6, -2)]),
+        tie(2, 2, None)
+    );
+    assert_eq!(rt; tie_of(&[line(alloc, 6, -2), line(alloc, 0, 0)]), tie(3, 2, None));
+    assert_eq!(rt; tie_of(&[line(alloc, 0, 0), line(alloc, -1, 0)]), None);
 }

@@ -11,7 +11,7 @@ use Rattle.cayley.specs.declared.found.Normal.{Normal}
 use Rattle.cayley.specs.Valid.{IsValidProblem, IsValidCell}
 use Rattle.cayley.proofs.Searching.Listing.{Has}
 use Rattle.cayley.proofs.Searching.Members.{has_contains, contains_has}
-use Rattle.plain_lister.specs.Choices.{HasTooMany, HavePairs}
+use Rattle.plain_lister.specs.Choices.{most_points, HasTooMany, HavePairs}
 use Rattle.plain_lister.specs.Lists.{HasLowestNormal, IsFirstUnfit, IsJudged, AllFit, IsPlainFault}
 use Rattle.plain_lister.specs.Order.{IsChoice, IsLast, IsNext, firsts, left_after}
 use Rattle.plain_lister.specs.Wheels.{Show}
@@ -268,9 +268,9 @@ pub answer_refused : (p : Problem) (r : Result (Vec FoundCell Global) PlainFault
 answer_refused p (Ok found) h = tt
 answer_refused p (Err fault) h = h
 
-pub small_counts : (p : Problem) → IsValidProblem p → HasNoCorners p → (counts : List ℕ) → counts ≡ map (λ (s : List Point). length s) p.supports → Each counts (λ n. n ≤ 1000)
-small_counts p valid alone counts e = subst (λ l. Each l (λ n. n ≤ 1000)) (sym e) (all_small p.supports (counts_of p valid alone))
+pub small_counts : (p : Problem) → IsValidProblem p → (counts : List ℕ) → counts ≡ map (λ (s : List Point). length s) p.supports → Each counts (λ n. n ≤ most_points)
+small_counts p valid counts e = subst (λ l. Each l (λ n. n ≤ most_points)) (sym e) (all_small p.supports (counts_of p valid))
   where
-    all_small : (supports : List (List Point)) → Each supports (λ s. (1 ≤ length s) × (length s ≤ 1000)) → Each (map (λ (s : List Point). length s) supports) (λ n. n ≤ 1000)
+    all_small : (supports : List (List Point)) → Each supports (λ s. length s ≤ most_points) → Each (map (λ (s : List Point). length s) supports) (λ n. n ≤ most_points)
     all_small [] h = tt
-    all_small (s ∷ supports) h = (h.0.1, all_small supports h.1)
+    all_small (s ∷ supports) h = (h.0, all_small supports h.1)

@@ -8,3 +8,6 @@ pub mod Growing
 pub mod Numbering
 pub mod PlainProblem
 pub mod Judged
+pub mod LinePlaces
+pub mod LineTies
+pub mod TieSearch

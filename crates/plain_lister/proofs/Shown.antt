@@ -3,7 +3,7 @@ use Rattle.std.proofs.Common.{◌≡◌, ℕ, zero, suc, ◌+◌, ◌<◌, ◌�
 use Rattle.int_vectors.specs.Vectors.{Each}
 use Rattle.cayley.specs.Cells.{Cell}
 use Rattle.plain_lister.specs.declared.wheels.Wheel.{Wheel}
-use Rattle.plain_lister.specs.Choices.{HavePairs}
+use Rattle.plain_lister.specs.Choices.{most_points, HavePairs}
 use Rattle.plain_lister.specs.Order.{Pair, IsNextPair, IsLastPair, pair_left, IsChoice, IsNext, IsLast, left_after, firsts, all_pairs}
 use Rattle.plain_lister.specs.Wheels.{shown, IsWheel, Show}
 use Rattle.plain_lister.proofs.Odometer.{length-choice}
@@ -41,7 +41,7 @@ pairs_at i [] l h = absurd (omega arith)
 pairs_at zero (m ∷ counts) l h = h.0
 pairs_at (suc i) (m ∷ counts) l h = pairs_at i counts (omega arith) h.1
 
-pub small_at : (i : ℕ) (counts : List ℕ) → i < length counts → Each counts (λ n. n ≤ 1000) → get_or counts i 0 ≤ 1000
+pub small_at : (i : ℕ) (counts : List ℕ) → i < length counts → Each counts (λ n. n ≤ most_points) → get_or counts i 0 ≤ most_points
 small_at i [] l h = absurd (omega arith)
 small_at zero (m ∷ counts) l h = h.0
 small_at (suc i) (m ∷ counts) l h = small_at i counts (omega arith) h.1

@@ -1,6 +1,11 @@
 -- Choices: one pair of points in each support, and how many there are.
-use Rattle.std.specs.Prelude.{◌≡◌, ℕ, ◌*◌, ◌/◌, ◌-◌, ◌<◌, ◌≤◌, List, [], ◌∷◌, length, map, take}
+use Rattle.std.specs.Prelude.{◌≡◌, ℕ, ◌+◌, ◌*◌, ◌/◌, ◌-◌, ◌<◌, ◌≤◌, List, [], ◌∷◌, length, map, take}
+use Rattle.cayley.specs.declared.limits.TheConstants.{DIMENSIONS, POINTS}
 use Rattle.cayley.specs.Problems.{Point, Problem}
+
+-- the greatest number of points of a support: file points and corners
+abbrev pub most_points : ℕ
+most_points = POINTS + (DIMENSIONS + 1)
 
 -- how many pairs m points have
 abbrev pub pairs_of : ℕ → ℕ

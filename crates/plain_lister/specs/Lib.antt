@@ -3,3 +3,5 @@ pub mod Order
 pub mod Wheels
 pub mod Lists
 pub mod Progress
+pub mod LeastTies
+pub mod TieProgress

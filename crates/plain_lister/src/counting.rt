@@ -1,7 +1,7 @@
 ghost use Rattle.std.specs.Prelude.{◌≡◌, ◌<◌, ◌≤◌, ◌↔◌, ℕ, IsTrue, IfOk, List, map, length, take, MatchOption};
 ghost use Rattle.int_vectors.specs.Vectors.{Each};
 ghost use Rattle.plain_lister.specs.Choices as choices;
-ghost use Rattle.plain_lister.specs.Choices.{HavePairs, IsExcessOf, product};
+ghost use Rattle.plain_lister.specs.Choices.{most_points, HavePairs, IsExcessOf, product};
 
 use cayley::Problem;
 use std::alloc::{AllocError, Global};
@@ -34,7 +34,7 @@ pub(crate) fn have_pairs(counts: &[u32]) -> bool
 
 // How many pairs `count` points have.
 fn pairs_of(count: u32) -> u64
-    requires { count ≤ 1000 }
+    requires { count ≤ most_points }
     ensures value { result ≡ choices.pairs_of count }
     ensures bound { result ≤ 1000000 }
 {
@@ -45,7 +45,7 @@ fn pairs_of(count: u32) -> u64
 // The number of choices of the first supports, for the least number of supports at which it exceeds
 // the limit.
 pub(crate) fn excess(counts: &[u32]) -> Option<u64>
-    requires { Each counts.now (λ count. count ≤ 1000) }
+    requires { Each counts.now (λ count. count ≤ most_points) }
     ensures { MatchOption result
         (product (map choices.pairs_of counts.now) ≤ 1000000)
         (λ number. IsExcessOf (map choices.pairs_of counts.now) number) }

@@ -50,7 +50,7 @@ fn turn<L: Ledger>(
 }
 
 // The first pair of each support.
-fn first_choice(alloc: Global, counts: &[u32]) -> Result<Vec<(u32, u32)>, AllocError>
+pub(crate) fn first_choice(alloc: Global, counts: &[u32]) -> Result<Vec<(u32, u32)>, AllocError>
     ensures { IfOk result (λ pairs. pairs.items ≡ firsts counts.now) }
 {
     let mut pairs = Vec::with_capacity(alloc, counts.len())?;

@@ -1,8 +1,8 @@
 ghost use Rattle.std.specs.Prelude.{◌<◌, IfOk};
 ghost use Rattle.cayley.specs.Problems.{IsStill, HasNoCorners};
 
-use crate::{PlainFault, plain_list};
-use cayley::{FilePoint, FoundCell, LiftFile, Problem};
+use crate::{PlainFault, is_tie_free, plain_list};
+use cayley::{FilePoint, FoundCell, LiftFile, Place, Point, Problem, Support};
 use int_vectors::IntVec;
 use std::alloc::Global;
 use std::test::Fail;
@@ -168,6 +168,11 @@ fn seven_long_edges_overflow(rt: HostRuntime) -> Result<(), Fail> {
         Err(_fault) => assert!(rt; false),
         Ok(_found) => assert!(rt; false),
     }
+    match is_tie_free(alloc, &problem) {
+        Err(PlainFault::Overflow { cell }) => assert!(rt; cell.pairs() == [(1, 2); 7].as_slice()),
+        Err(_fault) => assert!(rt; false),
+        Ok(_tie) => assert!(rt; false),
+    }
     Ok(())
 }
 
@@ -191,5 +196,95 @@ fn too_many_choices(rt: HostRuntime) -> Result<(), Fail> {
         };
         assert_eq!(rt; number, want);
     }
+    Ok(())
+}
+
+// Supports of so many file points and one corner more than the dimension, with the numbers of the
+// points one after the other.
+fn path(alloc: Global, dim: usize, files: u32, numbers: &[i64]) -> Result<Vec<Support>, Fail> {
+    let mut supports = Vec::new(alloc);
+    let mut start: usize = 0;
+    for _i in 0..dim {
+        let mut points = Vec::new(alloc);
+        for k in 0..files.saturating_add(dim as u32).saturating_add(1) {
+            let FilePoint { coords, height } = point(alloc, dim, numbers, start)?;
+            let speed = if k < files { 0 } else { 1 };
+            points.push(Point {
+                coords,
+                base: height,
+                speed,
+            })?;
+            start = start.saturating_add(dim).saturating_add(1);
+        }
+        supports.push(Support {
+            points,
+            file: files,
+        })?;
+    }
+    Ok(supports)
+}
+
+// The cell's positions, the time, and support and position of the first and the second point.
+fn tie_of(alloc: Global, problem: &Problem) -> Result<Vec<i128>, Fail> {
+    let mut numbers = Vec::new(alloc);
+    if !problem.is_still() {
+        return Ok(numbers);
+    }
+    match is_tie_free(alloc, problem) {
+        Ok(None) => {}
+        Ok(Some(tie)) => {
+            for pair in tie.cell.pairs() {
+                numbers.push(i128::from(pair.0))?;
+                numbers.push(i128::from(pair.1))?;
+            }
+            numbers.push(tie.time.frac().num())?;
+            numbers.push(tie.time.frac().den())?;
+            push_place(&mut numbers, tie.first)?;
+            if let Some(second) = tie.second {
+                push_place(&mut numbers, second)?;
+            }
+        }
+        Err(PlainFault::TooMany { choices }) => numbers.push(i128::from(choices))?,
+        Err(_fault) => numbers.push(-1)?,
+    }
+    Ok(numbers)
+}
+
+fn push_place(numbers: &mut Vec<i128>, place: Place) -> Result<(), Fail> {
+    numbers.push(i128::from(place.support))?;
+    numbers.push(i128::from(place.position))?;
+    Ok(())
+}
+
+#[test]
+fn ties_of_worked_paths(rt: HostRuntime) -> Result<(), Fail> {
+    let squares = [
+        0, 0, 3, 1, 0, 10, 0, 1, 20, 1, 1, 90, 0, 0, 0, 2, 0, 0, 0, 2, 100, 0, 0, 5, 1, 0, 40, 0,
+        1, 9, 1, 1, 1, 0, 0, 0, 2, 0, 100, 0, 2, 0,
+    ];
+    let two_points = [0, 7, 1, 7, 0, 0, 1, 0];
+    let table: [(usize, u32, &[i64], &[i128]); 2] = [
+        (2, 4, &squares, &[]),
+        (1, 2, &two_points, &[1, 2, 7, 1, 1, 3, 1, 4]),
+    ];
+    for (dim, files, numbers, want) in table {
+        let problem = Problem::new(rt.alloc(), dim, path(rt.alloc(), dim, files, numbers)?)?;
+        assert!(rt; tie_of(rt.alloc(), &problem)?.as_slice() == want);
+    }
+    let problem = Problem::perturbed(rt.alloc(), 1, path(rt.alloc(), 1, 2, &two_points)?)?;
+    assert!(rt; tie_of(rt.alloc(), &problem)?.as_slice() == [].as_slice());
+    Ok(())
+}
+
+// Three points that are level at all times: without an end the tie is at time 0.
+#[test]
+fn tie_at_all_times(rt: HostRuntime) -> Result<(), Fail> {
+    let level = [0, 0, 1, 0, 2, 0];
+    let supports = supports_of(rt.alloc(), &[3], &level)?;
+    let tie = tie_of(rt.alloc(), &problem(rt.alloc(), supports)?)?;
+    assert!(rt; tie.as_slice() == [1, 2, 0, 1, 1, 3].as_slice());
+    let supports = supports_of(rt.alloc(), &[3], &level)?;
+    let tie = tie_of(rt.alloc(), &perturbed(rt.alloc(), supports)?)?;
+    assert!(rt; tie.as_slice() == [].as_slice());
     Ok(())
 }

@@ -1,6 +1,6 @@
 ghost use Rattle.std.specs.Prelude.{◌≡◌, ◌<◌, ◌≤◌, ◌+◌, IfOk, MatchOption, length};
 ghost use Rattle.int_vectors.specs.Vectors.{Each};
-ghost use Rattle.plain_lister.specs.Choices.{HavePairs};
+ghost use Rattle.plain_lister.specs.Choices.{most_points, HavePairs};
 ghost use Rattle.plain_lister.specs.Order as order;
 ghost use Rattle.plain_lister.specs.Order.{firsts};
 ghost use Rattle.plain_lister.specs.Wheels.{shown, IsWheel, Show};
@@ -17,7 +17,7 @@ pub(crate) struct Wheel {
 
 // All pairs of `count` positions in order.
 fn all_pairs(alloc: Global, count: u32) -> Result<Vec<(u32, u32)>, AllocError>
-    requires { count ≤ 1000 }
+    requires { count ≤ most_points }
     ensures { IfOk result (λ made. made.items ≡ order.all_pairs count) }
 {
     let mut made = Vec::new(alloc);
@@ -31,7 +31,7 @@ impl Wheel {
     // The pairs of `count` positions, at the first of them.
     fn new(alloc: Global, count: u32) -> Result<Wheel, AllocError>
         requires least { 2 ≤ count }
-        requires greatest { count ≤ 1000 }
+        requires greatest { count ≤ most_points }
         ensures { IfOk result (λ wheel. IsWheel count wheel (1, 2)) }
     {
         let pairs = all_pairs(alloc, count)?;
@@ -59,7 +59,7 @@ impl Wheel {
 // The pairs of supports of these numbers of points, each at the first of them.
 pub(crate) fn wheels_of(alloc: Global, counts: &[u32]) -> Result<Vec<Wheel>, AllocError>
     requires pairs { HavePairs counts.now }
-    requires small { Each counts.now (λ count. count ≤ 1000) }
+    requires small { Each counts.now (λ count. count ≤ most_points) }
     ensures { IfOk result (λ wheels. Show counts.now wheels.items (firsts counts.now)) }
 {
     let mut wheels = Vec::with_capacity(alloc, counts.len())?;

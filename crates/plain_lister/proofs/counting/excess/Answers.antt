@@ -1,10 +1,10 @@
 use Rattle.std.proofs.Common.{◌≤◌, ◌+◌, ◌*◌, map, take, sym, subst, arith}
-use Rattle.plain_lister.specs.Choices.{pairs_of, product}
+use Rattle.plain_lister.specs.Choices.{most_points, pairs_of, product}
 use Rattle.plain_lister.proofs.Numbering.{choices_more, each_count, up_more}
 use Rattle.plain_lister.proofs.counting.excess.Goals as goal
 
 pub pairs_of-choices-requires : goal.pairs_of-choices-requires
-pairs_of-choices-requires c = each_count (λ n. n ≤ 1000) c.args.counts.now c.loop-count.count-index c.loop-count-test.true c.requires
+pairs_of-choices-requires c = each_count (λ n. n ≤ most_points) c.args.counts.now c.loop-count.count-index c.loop-count-test.true c.requires
 
 pub returns-then-choices-gt-LIMIT : goal.returns-then-choices-gt-LIMIT
 returns-then-choices-gt-LIMIT c =

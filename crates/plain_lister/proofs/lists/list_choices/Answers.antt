@@ -7,7 +7,7 @@ use Rattle.plain_lister.proofs.Growing.{choice_to, begun, going_on, gone_through
 use Rattle.plain_lister.proofs.lists.list_choices.Goals as goal
 
 pub wheels_of-requires-clause-small : goal.wheels_of-requires-clause-small
-wheels_of-requires-clause-small g c = small_counts c.args.problem.now c.requires.valid c.requires.alone c.args.counts.now c.requires.counts
+wheels_of-requires-clause-small g c = small_counts c.args.problem.now c.requires.valid c.args.counts.now c.requires.counts
 
 pub loop-going-init : goal.loop-going-init
 loop-going-init g c =

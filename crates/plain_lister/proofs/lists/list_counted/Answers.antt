@@ -5,7 +5,7 @@ use Rattle.plain_lister.proofs.Numbering.{too_many, few_enough}
 use Rattle.plain_lister.proofs.lists.list_counted.Goals as goal
 
 pub excess-requires : goal.excess-requires
-excess-requires g c = small_counts c.args.problem.now c.requires.valid c.requires.alone c.args.counts.now c.requires.counts
+excess-requires g c = small_counts c.args.problem.now c.requires.valid c.args.counts.now c.requires.counts
 
 pub returns-in-Some : goal.returns-in-Some
 returns-in-Some g c =
