@@ -3,3 +3,4 @@ pub mod Order
 pub mod Wheels
 pub mod Lists
 pub mod Progress
+pub mod LeastTies

@@ -7,11 +7,13 @@ mod counting;
 mod faults;
 mod judging;
 mod lists;
+mod ties;
 mod trying;
 mod wheels;
 
 pub use faults::PlainFault;
 pub use lists::plain_list;
+pub use ties::is_tie_free;
 
 #[cfg(test)]
 mod tests;
