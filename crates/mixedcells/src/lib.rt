@@ -5,6 +5,7 @@ mod lines;
 mod outcome;
 mod replies;
 mod top;
+mod walks;
 mod words;
 
 pub use outcome::Outcome;
