@@ -7,3 +7,5 @@ pub mod Listings
 pub mod Counted
 pub mod Spared
 pub mod Judged
+pub mod Walking
+pub mod Along

@@ -1,5 +1,5 @@
 -- What the walk along a path has found, and why it halted.
-use Rattle.std.specs.Prelude.{◌≡◌, ℕ, min, map}
+use Rattle.std.specs.Prelude.{◌≡◌, ℕ, min, List, map}
 use Rattle.int_vectors.specs.Vectors.{Each}
 use Rattle.cayley.specs.declared.found.FoundCell.{FoundCell}
 use Rattle.cayley.specs.Problems.{Problem}
@@ -15,6 +15,9 @@ use Rattle.searcher.specs.declared.expansions.HaltCause.TheVariants.{Tie, Overfl
 use Rattle.searcher.specs.declared.searching.Found.{Found}
 use Rattle.searcher.specs.Expansions.{HasLowestNormal}
 use Rattle.searcher.specs.Workings.{FitsWorking}
+use Rattle.mixedcells.specs.declared.outcome.Outcome.{Outcome}
+use Rattle.mixedcells.specs.declared.outcome.Outcome.TheVariants as variant
+use Rattle.mixedcells.specs.Outcomes.{overflow_cell, IsTieLine}
 use Rattle.mixedcells.specs.Walks.{AreReachedCells, IsTreeTie, IsTreeUnfit, top_count}
 
 -- the count is the size of the path tree, or the greatest count
@@ -42,3 +45,9 @@ abbrev pub HasHalted : File → HaltCause → Type 0
 HasHalted file (Tie proof) = IsTreeTie file proof
 HasHalted file (Overflow cell) = IsTreeUnfit file cell
 HasHalted file OutOfMemory = Unit {0}
+
+-- the outcome and its line tell the cause; want of memory is told otherwise
+abbrev pub TellsCause : HaltCause → Outcome → List ℕ → Type 0
+TellsCause (Tie proof) outcome text = (outcome ≡ variant.Tie proof) × IsTieLine proof text
+TellsCause (Overflow cell) outcome text = (outcome ≡ variant.OverflowCell cell) × (text ≡ overflow_cell cell)
+TellsCause OutOfMemory outcome text = ⊥

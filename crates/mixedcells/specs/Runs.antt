@@ -13,6 +13,7 @@ use Rattle.listing_text.specs.Writing.{listing_text}
 use Rattle.cell_certificate.specs.Written.{IsOwnTooLarge}
 use Rattle.plain_lister.specs.Lists.{AllFit}
 use Rattle.mixedcells.specs.declared.words.Command.{Command}
+use Rattle.mixedcells.specs.declared.words.Command.TheVariants as verb
 use Rattle.mixedcells.specs.declared.outcome.Outcome.{Outcome}
 use Rattle.mixedcells.specs.declared.outcome.Outcome.TheVariants as variant
 use Rattle.mixedcells.specs.Words.{Means, HasMeaning, IsWalking, reads}
@@ -53,9 +54,13 @@ IsFree outcome = (outcome ≡ variant.ReadFault) ⊎ (outcome ≡ variant.WriteF
 abbrev pub IsWalkEnd : Outcome → Type 0
 IsWalkEnd outcome = (outcome ≡ variant.Ok) ⊎ ((proof : TieProof) × (outcome ≡ variant.Tie proof)) ⊎ ((cell : Cell) × (outcome ≡ variant.OverflowCell cell))
 
--- both are ends of a walk, of which the words and the bytes don't tell which one comes
-abbrev pub AreWalkEnds : List (List ℕ) → Outcome → Outcome → Type 0
-AreWalkEnds words outcome other = IsWalking words × IsWalkEnd outcome × IsWalkEnd other
+-- both are ties of one cell
+abbrev pub AreTiesOfOne : Outcome → Outcome → Type 0
+AreTiesOfOne outcome other = (proof : TieProof) × (second : TieProof) × (outcome ≡ variant.Tie proof) × (other ≡ variant.Tie second) × (proof.cell ≡ second.cell)
+
+-- of these the words and the bytes don't tell which one comes: the ends of a walk, and of `generic` the tie that is named for one cell, however its time is written
+abbrev pub AreLoose : List (List ℕ) → Outcome → Outcome → Type 0
+AreLoose words outcome other = (IsWalking words × IsWalkEnd outcome × IsWalkEnd other) ⊎ (Means words verb.Generic × AreTiesOfOne outcome other)
 
 -- the outcome came and its text was written, or the sink failed and a part of the text was
 abbrev pub Finishes : Option (List ℕ) → Option (List ℕ) → ℕ → ℕ → List ℕ → Outcome → Outcome → Type 0

@@ -177,7 +177,7 @@ IsForTeam words = (command : Command) × Means words command × IsTrue (needs_te
 
 -- the words ask one searcher to walk along a path
 abbrev pub IsWalking : List Text → Type 0
-IsWalking words = Means words (verb.List 1) ⊎ Means words (verb.Sum 1)
+IsWalking words = (searchers : ℕ) × (nat_le 2 searchers ≡ false) × (Means words (verb.List searchers) ⊎ Means words (verb.Sum searchers))
 
 -- the words ask for a command that reads its input
 abbrev pub IsReading : List Text → Type 0

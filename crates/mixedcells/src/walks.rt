@@ -56,6 +56,7 @@ fn search_path(alloc: Global, problem: &Problem) -> Result<Found, HaltCause>
     requires searched { IsSearched problem.now }
     ensures { MatchResult result (IsWalked problem.now) (IsHalted problem.now) }
 {
+    let _dim = problem.dim();
     let Ok(branches) = start_branches(alloc, problem) else {
         return Err(HaltCause::OutOfMemory);
     };
@@ -70,6 +71,7 @@ fn search_path(alloc: Global, problem: &Problem) -> Result<Found, HaltCause>
 pub fn walk(alloc: Global, file: &LiftFile) -> Result<Found, HaltCause>
     ensures { MatchResult result (HasWalked file.now) (HasHalted file.now) }
 {
+    let _dim = file.dim();
     let Ok(problem) = with_corners(alloc, file) else {
         return Err(HaltCause::OutOfMemory);
     };
