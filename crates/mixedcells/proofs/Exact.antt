@@ -345,6 +345,15 @@ listed words bytes t means h = plain_listing bytes t (reply_not_long verb.Plain 
 pub ok_other : (result : Outcome) → result ≡ variant.Ok → ¬ (IsFree result)
 ok_other result e = not_free result (λ f. let g = ap status_of e in omega (arith, f, g)) (λ f. let g = ap status_of e in omega (arith, f, g)) (λ f. let g = ap status_of e in omega (arith, f, g))
 
+pub tie_other : (result : Outcome) (proof : TieProof) → result ≡ variant.Tie proof → ¬ (IsFree result)
+tie_other result proof e = not_free result (λ f. let g = ap status_of e in omega (arith, f, g)) (λ f. let g = ap status_of e in omega (arith, f, g)) (λ f. let g = ap status_of e in omega (arith, f, g))
+
+pub cell_other : (result : Outcome) (cell : Cell) → result ≡ variant.OverflowCell cell → ¬ (IsFree result)
+cell_other result cell e = not_free result (λ f. let g = ap status_of e in omega (arith, f, g)) (λ f. let g = ap status_of e in omega (arith, f, g)) (λ f. let g = ap status_of e in omega (arith, f, g))
+
+pub team_other : (result : Outcome) → result ≡ variant.NeedsTeam → ¬ (IsFree result)
+team_other result e = not_free result (λ f. let g = ap status_of e in omega (arith, f, g)) (λ f. let g = ap status_of e in omega (arith, f, g)) (λ f. let g = ap status_of e in omega (arith, f, g))
+
 -- what is called for on the bytes that are left
 pub known : (words : List (List ℕ)) (left : Option (List ℕ)) (bytes : List ℕ) (o : Outcome) (t : List ℕ) → left ≡ Some bytes → IsCalledFor words left o t → IsCalledFor words (Some bytes) o t
 known words left bytes o t e h = subst (λ l. IsCalledFor words l o t) e h

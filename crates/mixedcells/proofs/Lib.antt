@@ -8,4 +8,5 @@ pub mod Counted
 pub mod Spared
 pub mod Judged
 pub mod Walking
-pub mod Along
+pub mod AlongPaths
+pub mod Teams

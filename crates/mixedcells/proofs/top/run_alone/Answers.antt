@@ -2,7 +2,9 @@ use Rattle.std.proofs.Common.{inr, Some, map, string_bytes}
 use Rattle.mixedcells.proofs.CommandLine.Words.{no_reader, reader}
 use Rattle.mixedcells.proofs.CommandLine.Ranges.{fits}
 use Rattle.mixedcells.proofs.Ended.{appends_as, usage_cut, usage_written}
-use Rattle.mixedcells.proofs.Exact.{called_made, comes, makes, lists, ended_listed, ok_other, known}
+use Rattle.mixedcells.proofs.Exact.{tie_other, cell_other, team_other, called_made, comes, makes, lists, ended_listed, ok_other, known}
+use Rattle.mixedcells.proofs.AlongPaths as along
+use Rattle.mixedcells.proofs.Teams.{no_team, asked_for, usage_alone, meant_team, team_called, appends_none, no_other, no_walk, no_reading}
 use Rattle.mixedcells.proofs.Judged.{checked, judged, spares, plain_spared}
 use Rattle.mixedcells.proofs.top.run_alone.Goals as goal
 
@@ -47,6 +49,54 @@ returns-in-Ok-clause-judged g c = λ bytes listing left short means text fit.
 pub returns-in-Ok-clause-spares : goal.returns-in-Ok-clause-spares
 returns-in-Ok-clause-spares g c = λ bytes left means written.
     spares (map string_bytes c.args.words.now) bytes means written _ (λ other. let w = returns-in-Ok-clause-written g c other in (w.0, known (map string_bytes c.args.words.now) _ bytes _ _ left w.1))
+
+pub returns-in-Ok-clause-headline : goal.returns-in-Ok-clause-headline
+returns-in-Ok-clause-headline g c = λ bytes file left means f safe ok.
+    let w = returns-in-Ok-clause-written g c (ok_other _ ok) in
+    (w.0, along.headline (map string_bytes c.args.words.now) bytes file _ _ w.0 left means f safe ok w.1, w.2)
+
+pub returns-in-Ok-clause-headline_sum : goal.returns-in-Ok-clause-headline_sum
+returns-in-Ok-clause-headline_sum g c = λ bytes file left means f safe ok.
+    let w = returns-in-Ok-clause-written g c (ok_other _ ok) in
+    (w.0, along.headline_sum (map string_bytes c.args.words.now) bytes file _ _ w.0 left means f safe ok w.1, w.2)
+
+pub returns-in-Ok-clause-reached : goal.returns-in-Ok-clause-reached
+returns-in-Ok-clause-reached g c = λ bytes left means ok.
+    let w = returns-in-Ok-clause-written g c (ok_other _ ok) in
+    let l = along.reached (map string_bytes c.args.words.now) bytes _ _ w.0 left means ok w.1 in (l.0, l.1, (w.0, l.2, w.2))
+
+pub returns-in-Ok-clause-reached_sum : goal.returns-in-Ok-clause-reached_sum
+returns-in-Ok-clause-reached_sum g c = λ bytes left means ok.
+    let w = returns-in-Ok-clause-written g c (ok_other _ ok) in
+    let l = along.reached_sum (map string_bytes c.args.words.now) bytes _ _ w.0 left means ok w.1 in (l.0, l.1, (w.0, l.2, w.2))
+
+pub returns-in-Ok-clause-tie_cause : goal.returns-in-Ok-clause-tie_cause
+returns-in-Ok-clause-tie_cause g c = λ bytes proof left walks is.
+    let w = returns-in-Ok-clause-written g c (tie_other _ proof is) in
+    along.tie_cause (map string_bytes c.args.words.now) bytes proof _ _ w.0 left walks is w.1
+
+pub returns-in-Ok-clause-overflow_cause : goal.returns-in-Ok-clause-overflow_cause
+returns-in-Ok-clause-overflow_cause g c = λ bytes cell left walks is.
+    let w = returns-in-Ok-clause-written g c (cell_other _ cell is) in
+    along.overflow_cause (map string_bytes c.args.words.now) bytes cell _ _ w.0 left walks is w.1
+
+pub returns-in-Ok-clause-tie_free : goal.returns-in-Ok-clause-tie_free
+returns-in-Ok-clause-tie_free g c = λ bytes file left means f ok.
+    let w = returns-in-Ok-clause-written g c (ok_other _ ok) in
+    along.tie_free (map string_bytes c.args.words.now) bytes file _ _ w.0 left means f ok w.1
+
+pub returns-in-Ok-clause-walked : goal.returns-in-Ok-clause-walked
+returns-in-Ok-clause-walked g c = λ bytes file left short walks f safe fits.
+    along.walked (map string_bytes c.args.words.now) bytes file _ short walks f safe fits (λ other. let w = returns-in-Ok-clause-written g c other in (w.0, known (map string_bytes c.args.words.now) _ bytes _ _ left w.1))
+
+pub returns-in-Ok-clause-needs_team : goal.returns-in-Ok-clause-needs_team
+returns-in-Ok-clause-needs_team g c = (
+  λ e. let w = returns-in-Ok-clause-written g c (team_other _ e) in asked_for (map string_bytes c.args.words.now) _ _ w.0 e w.1,
+  λ t. no_team (map string_bytes c.args.words.now) c.in-Ok.command c.in-Ok.ensures (alone g c) t,
+)
+
+pub returns-in-Ok-clause-untouched : goal.returns-in-Ok-clause-untouched
+returns-in-Ok-clause-untouched g c = λ e. no_team (map string_bytes c.args.words.now) c.in-Ok.command c.in-Ok.ensures (alone g c) ((returns-in-Ok-clause-needs_team g c).0 e)
 
 pub returns-in-Ok-clause-made : goal.returns-in-Ok-clause-made
 returns-in-Ok-clause-made g c = λ family seed means.
