@@ -99,3 +99,7 @@ usage_alone old new before now text result (inr h) e = absurd (let f = ap status
 
 pub meant_team : {P : Type 0} (words : List (List ℕ)) → ¬ (HasMeaning words) → IsForTeam words → P
 meant_team words none t = absurd (none (t.0, t.1))
+
+pub walking_meant : (words : List (List ℕ)) → IsWalking words → HasMeaning words
+walking_meant words (n, e, inl means) = (verb.List n, means)
+walking_meant words (n, e, inr means) = (verb.Sum n, means)
