@@ -19,12 +19,18 @@ use Rattle.listing_text.proofs.Formed.{meant_valid}
 use Rattle.searcher.specs.declared.expansions.HaltCause.{HaltCause}
 use Rattle.searcher.specs.declared.expansions.HaltCause.TheVariants.{Tie, Overflow, OutOfMemory}
 use Rattle.searcher.specs.declared.searching.Found.{Found}
+use Rattle.lex_height.specs.Values as values
+use Rattle.cayley.specs.Problems.{Problem}
+use Rattle.plain_lister.specs.Choices.{HasTooMany, IsExcess}
+use Rattle.plain_lister.specs.Lists.{AllFit}
+use Rattle.plain_lister.specs.LeastTies.{IsLeastTie, IsLeastTiedOrUnfit}
+use Rattle.cone_walls.specs.Workings.{FitsWallWorking}
 use Rattle.mixedcells.specs.declared.words.Command.{Command}
 use Rattle.mixedcells.specs.declared.words.Command.TheVariants as verb
 use Rattle.mixedcells.specs.declared.outcome.Outcome.{Outcome}
 use Rattle.mixedcells.specs.declared.outcome.Outcome.TheVariants as variant
 use Rattle.mixedcells.specs.Words.{Means, IsWalking}
-use Rattle.mixedcells.specs.Outcomes.{status_of, sum_lines}
+use Rattle.mixedcells.specs.Outcomes.{status_of, sum_lines, tie_free_line, too_many_line, overflow_cell, IsTieLine}
 use Rattle.mixedcells.specs.Walks.{IsSafe, TreeFits, IsReachedListing, IsReachedSum, IsSumOf, IsTreeTie, IsTreeUnfit, IsWalkReply, IsTieReply}
 use Rattle.mixedcells.specs.Journeys.{HasWalked, HasHalted, TellsCause}
 use Rattle.mixedcells.specs.Answers.{limit, IsFileReply, IsAloneReply}
@@ -44,6 +50,22 @@ pub sum_written : (file : File) (found : Found) (n : ℕ) (text : List ℕ) → 
 sum_written file found n text w e f =
     let cells = map (λ (x : FoundCell). x.cell) found.cells.items in
     (cells, w.tree.0, w.cells.cells, w.tree.1, f ∙ ap₂ sum_lines (e ∙ sym (length-map found.cells.items (λ (x : FoundCell). x.cell))) w.tree.2)
+
+-- ---- ties of a path
+module _ (file : File) (p : Problem) (e : p ≡ path file) where
+  pub free_reply : (text : List ℕ) → text ≡ tie_free_line → ¬ (HasTooMany p) → IsTieFree p → AllFit p → IsTieReply file variant.Ok text
+  free_reply text t few free fit = (t, subst (λ q. ¬ (HasTooMany q)) e few, subst IsTieFree e free, subst AllFit e fit)
+
+  pub tied_reply : (proof : TieProof) (o : Outcome) (text : List ℕ) → ¬ (HasTooMany p) → IsLeastTie p proof → values.IsLowest proof.time → (o ≡ variant.Tie proof) × IsTieLine proof text → IsTieReply file o text
+  tied_reply proof o text few tie lowest told =
+      subst (λ q. IsTieReply file q text) (sym told.0) (told.1, subst (λ q. ¬ (HasTooMany q)) e few, subst (λ q. IsLeastTie q proof) e tie, lowest)
+
+  pub many_reply : (choices : ℕ) (text : List ℕ) → text ≡ too_many_line choices → HasTooMany p × IsExcess p choices → IsTieReply file (variant.TooMany choices) text
+  many_reply choices text t h = (t, subst HasTooMany e h.0, subst (λ q. IsExcess q choices) e h.1)
+
+  pub unfit_reply : (cell : Cell) (o : Outcome) (text : List ℕ) → ¬ (HasTooMany p) × IsLeastTiedOrUnfit p cell × ¬ (FitsWallWorking p cell) → (o ≡ variant.OverflowCell cell) × (text ≡ overflow_cell cell) → IsTieReply file o text
+  unfit_reply cell o text h told =
+      subst (λ q. IsTieReply file q text) (sym told.0) (told.1, subst (λ q. ¬ (HasTooMany q)) e h.0, subst (λ q. IsLeastTiedOrUnfit q cell) e h.1, subst (λ q. ¬ (FitsWallWorking q cell)) e h.2)
 
 -- by one searcher a walk replies
 pub alone_reply : (n : ℕ) (W : File → List ℕ → Type 0) (bytes : List ℕ) (o : Outcome) (t : List ℕ) → nat_le 2 n ≡ false → IsAloneReply n W bytes o t → IsFileReply (IsWalkReply W) bytes o t

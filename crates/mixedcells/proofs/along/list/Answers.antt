@@ -4,8 +4,8 @@ use Rattle.mixedcells.proofs.Readings.{if_ok_weaker}
 use Rattle.mixedcells.proofs.AlongPaths.{tells_walk}
 use Rattle.mixedcells.proofs.along.list.Goals as goal
 
-pub returns-in-Ok : goal.returns-in-Ok
-returns-in-Ok c = (c.in-Ok.found.cells.items, c.in-Ok.ensures.cells, (rw c.deref.ensures.value at c.in_ok-text-in-Ok.ensures))
+pub returns-in_ok-text-in-Ok : goal.returns-in_ok-text-in-Ok
+returns-in_ok-text-in-Ok c = (c.in-Ok.found.cells.items, c.in-Ok.ensures.cells, (rw c.deref.ensures.value at c.in_ok-text-in-Ok.ensures))
 
 pub returns-in-Err : goal.returns-in-Err
 returns-in-Err c =
