@@ -38,6 +38,8 @@ verdict_answer listing variant.WriteFault t h = absurd h
 verdict_answer listing variant.OutOfMemory t h = absurd h
 verdict_answer listing variant.TooLong t h = absurd h
 verdict_answer listing (variant.TooMany choices) t h = absurd h
+verdict_answer listing (variant.Tie proof) t h = absurd h
+verdict_answer listing variant.NeedsTeam t h = absurd h
 
 one_verdict : (listing : Listing) (r s : Answer) → HadMemory r → HadMemory s → IsAnswer listing r → IsAnswer listing s → r ≡ s
 one_verdict listing r (Ok Yes) m n a b = (yes_exactly listing r a m).1 b

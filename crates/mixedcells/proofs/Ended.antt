@@ -1,15 +1,21 @@
 -- What follows from how a run ended.
-use Rattle.std.proofs.Common.{◌≡◌, ◌∙◌, ℕ, ◌+◌, ◌≤◌, ◌++◌, IsTrue, false, append-nil, List, length, take, Option, Some, None, codes, refl, sym, ap, subst, arith, inl, inr, ⊎_elim, length-append}
+use Rattle.std.proofs.Common.{◌≡◌, ◌∙◌, ℕ, ◌+◌, ◌≤◌, ◌++◌, Bool, true, IsTrue, false, not, nat_le, append-nil, List, length, take, Option, Some, None, codes, refl, sym, ap, subst, arith, inl, inr, ⊎_elim, length-append}
 use Rattle.std.specs.Io.KnownBytes.{Appends, Consumes, IsAtEnd}
+use Rattle.cayley.specs.Files.{File}
 use Rattle.edge_io.specs.Faults.{Rose}
 use Rattle.mixedcells.specs.Words.{HasMeaning, reads}
 use Rattle.mixedcells.specs.Outcomes.{status_of}
-use Rattle.mixedcells.specs.Answers.{IsReply, IsPlainReply, IsCheckReply}
+use Rattle.mixedcells.specs.Walks.{IsReachedListing, IsReachedSum, IsWalkReply, IsTieReply}
+use Rattle.mixedcells.specs.Answers.{IsReply, IsFileReply, IsListReply, IsAloneReply, IsCheckReply}
 use Rattle.mixedcells.specs.Runs.{IsAnswer, IsInput, IsCalledFor, IsFree, IsCutOff, Finishes}
 use Rattle.mixedcells.specs.declared.words.Command.{Command}
 use Rattle.mixedcells.specs.declared.words.Command.TheVariants as verb
 use Rattle.mixedcells.specs.declared.outcome.Outcome.{Outcome}
 use Rattle.mixedcells.specs.declared.outcome.Outcome.TheVariants.{TooLong, Usage, WriteFault}
+
+by_test : {P : Type 0} (b : Bool) → b ≡ false → not b ≡ false → P
+by_test true e f = cc
+by_test false e f = cc
 
 never : {P : Type 0} → IsTrue false → P
 never h = cc
@@ -30,27 +36,52 @@ whole_answer command None rest taken o t c l e r = (taken, tt, inr (λ x. l, r))
 whole_answer command (Some xs) None taken o t c l e r = absurd c
 whole_answer command (Some xs) (Some ys) taken o t c l e r = (taken, c ∙ ap (λ q. taken ++ q) e ∙ append-nil taken, inr (λ x. l, r))
 
+-- what a command that reads nothing replies is the same on all bytes
+blind : (command : Command) (xs ys : List ℕ) (o : Outcome) (t : List ℕ) → reads command ≡ false → IsReply command xs o t → IsReply command ys o t
+blind verb.Plain xs ys o t e r = cc
+blind (verb.List n) xs ys o t e r = ⊎_elim (λ h. by_test (nat_le 2 n) h.0 e) inr r
+blind (verb.Sum n) xs ys o t e r = ⊎_elim (λ h. by_test (nat_le 2 n) h.0 e) inr r
+blind verb.Check xs ys o t e r = cc
+blind verb.Generic xs ys o t e r = cc
+blind (verb.Make family seed) xs ys o t e r = r
+
 -- a reply to what was taken is an answer: all of the input, or what a command that doesn't read it takes
 pub replied : (command : Command) (left rest : Option (List ℕ)) (taken : List ℕ) (o : Outcome) (t : List ℕ) → Consumes left rest taken → length taken ≤ 16777216
     → (IsTrue (reads command) → IsAtEnd rest) → IsReply command taken o t → (bytes : List ℕ) × IsInput left bytes × IsAnswer command bytes o t
-replied verb.Plain left rest taken o t c l e r = whole_answer verb.Plain left rest taken o t c l (e refl) r
-replied verb.Check left rest taken o t c l e r = whole_answer verb.Check left rest taken o t c l (e refl) r
-replied (verb.Make family seed) None rest taken o t c l e r = (taken, tt, inr (λ x. l, r))
-replied (verb.Make family seed) (Some xs) rest taken o t c l e r = (xs, refl, inr (λ x. never x, r))
+replied command left rest taken o t c l end r = by_reading (reads command) refl
+  where
+    unread : (q : Option (List ℕ)) → reads command ≡ false → (bytes : List ℕ) × IsInput q bytes × IsAnswer command bytes o t
+    unread None e = (taken, tt, inr (λ x. l, r))
+    unread (Some xs) e = (xs, refl, inr (λ x. never (subst IsTrue e x), blind command taken xs o t e r))
 
-plain_not_fault : (bytes t : List ℕ) → IsPlainReply bytes WriteFault t → ⊥
-plain_not_fault bytes t (inl h) = h.2
-plain_not_fault bytes t (inr h) = let e = ap status_of h.2.0 in omega (arith, e)
+    by_reading : (b : Bool) → reads command ≡ b → (bytes : List ℕ) × IsInput left bytes × IsAnswer command bytes o t
+    by_reading true e = whole_answer command left rest taken o t c l (end (subst IsTrue (sym e) refl)) r
+    by_reading false e = unread left e
+
+-- where what is said of a file never is that the sink failed, no reply is
+file_not_fault : (IsSaid : File → Outcome → List ℕ → Type 0) (bytes t : List ℕ) → ((file : File) → IsSaid file WriteFault t → ⊥) → IsFileReply IsSaid bytes WriteFault t → ⊥
+file_not_fault IsSaid bytes t f (inl h) = f h.0 h.2
+file_not_fault IsSaid bytes t f (inr h) = let e = ap status_of h.2.0 in omega (arith, e)
+
+alone_not_fault : (n : ℕ) (W : File → List ℕ → Type 0) (bytes t : List ℕ) → IsAloneReply n W bytes WriteFault t → ⊥
+alone_not_fault n W bytes t (inl h) = file_not_fault (IsWalkReply W) bytes t (λ file k. k) h.1
+alone_not_fault n W bytes t (inr h) = let e = ap status_of h.1 in omega (arith, e)
 
 check_not_fault : (bytes t : List ℕ) → IsCheckReply bytes WriteFault t → ⊥
 check_not_fault bytes t (inl h) = h.2
 check_not_fault bytes t (inr h) = let e = ap status_of h.2.0 in omega (arith, e)
 
+no_write_fault : (command : Command) (bytes t : List ℕ) → IsReply command bytes WriteFault t → ⊥
+no_write_fault verb.Plain bytes t r = file_not_fault IsListReply bytes t (λ file k. k) r
+no_write_fault (verb.List n) bytes t r = alone_not_fault n IsReachedListing bytes t r
+no_write_fault (verb.Sum n) bytes t r = alone_not_fault n IsReachedSum bytes t r
+no_write_fault verb.Check bytes t r = check_not_fault bytes t r
+no_write_fault verb.Generic bytes t r = file_not_fault IsTieReply bytes t (λ file k. k) r
+no_write_fault (verb.Make family seed) bytes t r = let f = ap status_of r.0 in omega (arith, f)
+
 -- no command replies that the sink failed
 pub not_fault : (command : Command) (bytes : List ℕ) (o : Outcome) (t : List ℕ) → IsReply command bytes o t → o ≡ WriteFault → ⊥
-not_fault verb.Plain bytes o t r e = plain_not_fault bytes t (subst (λ q. IsPlainReply bytes q t) e r)
-not_fault verb.Check bytes o t r e = check_not_fault bytes t (subst (λ q. IsCheckReply bytes q t) e r)
-not_fault (verb.Make family seed) bytes o t r e = let f = ap status_of (sym e ∙ r.0) in omega (arith, f)
+not_fault command bytes o t r e = no_write_fault command bytes t (subst (λ q. IsReply command bytes q t) e r)
 
 module _ (old new : Option (List ℕ)) (before now : ℕ) (text : List ℕ) (outcome result : Outcome) where
   pub finished : Finishes old new before now text outcome result → ¬ (IsFree result) → (result ≡ outcome) × Appends old new text

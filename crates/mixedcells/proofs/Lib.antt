@@ -7,3 +7,6 @@ pub mod Listings
 pub mod Counted
 pub mod Spared
 pub mod Judged
+pub mod Walking
+pub mod AlongPaths
+pub mod Teams

@@ -1,5 +1,5 @@
 -- What a command answers on the bytes of its input, and what it writes for that.
-use Rattle.std.specs.Prelude.{◌≡◌, ◌⊎◌, ℕ, List, Ok, Err}
+use Rattle.std.specs.Prelude.{◌≡◌, ◌⊎◌, ℕ, List, [], Ok, Err, IsTrue, false, nat_le}
 use Rattle.cayley.specs.Files.{File, plain_problem}
 use Rattle.support_text.specs.declared.fault.FormatFault.{FormatFault}
 use Rattle.support_text.specs.ProblemText.{problem_of}
@@ -16,6 +16,7 @@ use Rattle.mixedcells.specs.declared.words.Command.TheVariants as verb
 use Rattle.mixedcells.specs.declared.outcome.Outcome.{Outcome}
 use Rattle.mixedcells.specs.declared.outcome.Outcome.TheVariants as variant
 use Rattle.mixedcells.specs.Families.{family_file}
+use Rattle.mixedcells.specs.Walks.{IsReachedListing, IsReachedSum, IsWalkReply, IsTieReply}
 use Rattle.mixedcells.specs.Outcomes.{yes_line, format_line, no_line, overflow_line, too_many_line, overflow_cell}
 
 -- the longest input that is read
@@ -35,16 +36,32 @@ IsListReply file variant.ReadFault text = ⊥
 IsListReply file variant.WriteFault text = ⊥
 IsListReply file variant.OutOfMemory text = ⊥
 IsListReply file variant.TooLong text = ⊥
+IsListReply file (variant.Tie proof) text = ⊥
+IsListReply file variant.NeedsTeam text = ⊥
 
 -- the first fault of the input's format is told
 abbrev pub TellsFault : FormatFault → Outcome → List ℕ → Type 0
 TellsFault fault outcome text = (outcome ≡ variant.Format fault.line fault.kind) × (text ≡ format_line fault.line fault.kind)
 
--- what `plain` replies: what is said of the file that the bytes mean, or their first fault
-abbrev pub IsPlainReply : List ℕ → Outcome → List ℕ → Type 0
-IsPlainReply bytes outcome text =
-    ((file : File) × (problem_of bytes ≡ Ok file) × IsListReply file outcome text)
+-- what is said of the file that the bytes mean, or their first fault
+abbrev pub IsFileReply : (File → Outcome → List ℕ → Type 0) → List ℕ → Outcome → List ℕ → Type 0
+IsFileReply IsSaid bytes outcome text =
+    ((file : File) × (problem_of bytes ≡ Ok file) × IsSaid file outcome text)
     ⊎ ((fault : FormatFault) × (problem_of bytes ≡ Err fault) × TellsFault fault outcome text)
+
+-- what `plain` replies
+abbrev pub IsPlainReply : List ℕ → Outcome → List ℕ → Type 0
+IsPlainReply = IsFileReply IsListReply
+
+-- what a walk replies by one searcher; for more a team is wanted, and nothing is written
+abbrev pub IsAloneReply : ℕ → (File → List ℕ → Type 0) → List ℕ → Outcome → List ℕ → Type 0
+IsAloneReply searchers IsWritten bytes outcome text =
+    ((nat_le 2 searchers ≡ false) × IsFileReply (IsWalkReply IsWritten) bytes outcome text)
+    ⊎ (IsTrue (nat_le 2 searchers) × (outcome ≡ variant.NeedsTeam) × (text ≡ []))
+
+-- what `generic` replies
+abbrev pub IsGenericReply : List ℕ → Outcome → List ℕ → Type 0
+IsGenericReply = IsFileReply IsTieReply
 
 -- what is said of a listing: every line passes, or the first that doesn't, with the reason or for a number that doesn't fit
 abbrev pub IsVerdictReply : Listing → Outcome → List ℕ → Type 0
@@ -59,6 +76,8 @@ IsVerdictReply listing variant.WriteFault text = ⊥
 IsVerdictReply listing variant.OutOfMemory text = ⊥
 IsVerdictReply listing variant.TooLong text = ⊥
 IsVerdictReply listing (variant.TooMany choices) text = ⊥
+IsVerdictReply listing (variant.Tie proof) text = ⊥
+IsVerdictReply listing variant.NeedsTeam text = ⊥
 
 -- the bytes mean this listing
 abbrev pub IsListingText : List ℕ → Listing → Type 0
@@ -77,5 +96,8 @@ IsMadeReply family seed outcome text = (outcome ≡ variant.Ok) × (text ≡ pro
 -- what a command replies on the bytes of its input; `make` replies the same on all
 abbrev pub IsReply : Command → List ℕ → Outcome → List ℕ → Type 0
 IsReply verb.Plain bytes outcome text = IsPlainReply bytes outcome text
+IsReply (verb.List searchers) bytes outcome text = IsAloneReply searchers IsReachedListing bytes outcome text
+IsReply (verb.Sum searchers) bytes outcome text = IsAloneReply searchers IsReachedSum bytes outcome text
+IsReply verb.Generic bytes outcome text = IsGenericReply bytes outcome text
 IsReply verb.Check bytes outcome text = IsCheckReply bytes outcome text
 IsReply (verb.Make family seed) bytes outcome text = IsMadeReply family seed outcome text

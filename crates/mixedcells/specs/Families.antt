@@ -21,5 +21,8 @@ IsInLimits (Scatter n m side) = ((1 ≤ n) × (n ≤ 16)) × ((1 ≤ m) × (m �
 -- the same of a command
 abbrev pub IsFit : Command → Type 0
 IsFit verb.Plain = Unit {0}
+IsFit (verb.List searchers) = Unit {0}
+IsFit (verb.Sum searchers) = Unit {0}
 IsFit verb.Check = Unit {0}
+IsFit verb.Generic = Unit {0}
 IsFit (verb.Make family seed) = IsInLimits family

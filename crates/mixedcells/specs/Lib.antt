@@ -3,5 +3,7 @@ pub mod Words
 pub mod CommandLine
 pub mod Families
 pub mod Outcomes
+pub mod Walks
+pub mod Journeys
 pub mod Answers
 pub mod Runs

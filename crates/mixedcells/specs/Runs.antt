@@ -3,7 +3,9 @@ use Rattle.std.specs.Prelude.{◌≡◌, ◌⊎◌, ◌+◌, ◌<◌, ◌≤◌,
 use Rattle.std.specs.Io.KnownBytes.{Appends, Consumes}
 use Rattle.edge_io.specs.Faults.{Rose}
 use Rattle.cayley.specs.Files.{File, plain_problem}
+use Rattle.cayley.specs.Cells.{Cell}
 use Rattle.cayley.specs.declared.found.FoundCell.{FoundCell}
+use Rattle.cayley.specs.declared.found.TieProof.{TieProof}
 use Rattle.support_text.specs.ProblemText.{problem_of}
 use Rattle.listing_text.specs.declared.listing.Listing.{Listing}
 use Rattle.listing_text.specs.Listings.{AreMixedCells}
@@ -11,10 +13,11 @@ use Rattle.listing_text.specs.Writing.{listing_text}
 use Rattle.cell_certificate.specs.Written.{IsOwnTooLarge}
 use Rattle.plain_lister.specs.Lists.{AllFit}
 use Rattle.mixedcells.specs.declared.words.Command.{Command}
+use Rattle.mixedcells.specs.declared.words.Command.TheVariants as verb
 use Rattle.mixedcells.specs.declared.outcome.Outcome.{Outcome}
 use Rattle.mixedcells.specs.declared.outcome.Outcome.TheVariants as variant
-use Rattle.mixedcells.specs.Words.{Means, HasMeaning, reads}
-use Rattle.mixedcells.specs.Outcomes.{line_of}
+use Rattle.mixedcells.specs.Words.{Means, HasMeaning, IsWalking, reads}
+use Rattle.mixedcells.specs.Outcomes.{usage_line, too_long_line}
 use Rattle.mixedcells.specs.Answers.{limit, IsListingText, IsReply}
 
 -- the input is longer than a command reads
@@ -24,7 +27,7 @@ IsTooLong command bytes = IsTrue (reads command) × (limit < length bytes)
 -- what a command answers on its whole input, and what it writes for that: the input is too long, or the command replies
 abbrev pub IsAnswer : Command → List ℕ → Outcome → List ℕ → Type 0
 IsAnswer command bytes outcome text =
-    (IsTooLong command bytes × (outcome ≡ variant.TooLong) × (text ≡ line_of variant.TooLong))
+    (IsTooLong command bytes × (outcome ≡ variant.TooLong) × (text ≡ too_long_line))
     ⊎ ((IsTrue (reads command) → length bytes ≤ limit) × IsReply command bytes outcome text)
 
 -- the bytes are those that a source has left, where it tells them
@@ -35,7 +38,7 @@ IsInput (Some left) bytes = left ≡ bytes
 -- what the words and the input call for: usage, or the answer of a command
 abbrev pub IsCalledFor : List (List ℕ) → Option (List ℕ) → Outcome → List ℕ → Type 0
 IsCalledFor words left outcome text =
-    (¬ (HasMeaning words) × (outcome ≡ variant.Usage) × (text ≡ line_of variant.Usage))
+    (¬ (HasMeaning words) × (outcome ≡ variant.Usage) × (text ≡ usage_line))
     ⊎ ((command : Command) × (bytes : List ℕ) × Means words command × IsInput left bytes × IsAnswer command bytes outcome text)
 
 -- a part of what was called for was written, and the sink's faults rose
@@ -46,6 +49,18 @@ IsCutOff IsRight old new before now = Rose before now
 -- the answers that tell of the ends or of the memory, and so may come in place of any other
 abbrev pub IsFree : Outcome → Type 0
 IsFree outcome = (outcome ≡ variant.ReadFault) ⊎ (outcome ≡ variant.WriteFault) ⊎ (outcome ≡ variant.OutOfMemory)
+
+-- how a walk along a path ends: with its list, or at a tie or a cell that doesn't fit
+abbrev pub IsWalkEnd : Outcome → Type 0
+IsWalkEnd outcome = (outcome ≡ variant.Ok) ⊎ ((proof : TieProof) × (outcome ≡ variant.Tie proof)) ⊎ ((cell : Cell) × (outcome ≡ variant.OverflowCell cell))
+
+-- both are ties of one cell
+abbrev pub AreTiesOfOne : Outcome → Outcome → Type 0
+AreTiesOfOne outcome other = (proof : TieProof) × (second : TieProof) × (outcome ≡ variant.Tie proof) × (other ≡ variant.Tie second) × (proof.cell ≡ second.cell)
+
+-- of these the words and the bytes don't tell which one comes: the ends of a walk, and of `generic` the tie that is named for one cell, however its time is written
+abbrev pub AreLoose : List (List ℕ) → Outcome → Outcome → Type 0
+AreLoose words outcome other = (IsWalking words × IsWalkEnd outcome × IsWalkEnd other) ⊎ (Means words verb.Generic × AreTiesOfOne outcome other)
 
 -- the outcome came and its text was written, or the sink failed and a part of the text was
 abbrev pub Finishes : Option (List ℕ) → Option (List ℕ) → ℕ → ℕ → List ℕ → Outcome → Outcome → Type 0

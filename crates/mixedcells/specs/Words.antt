@@ -1,5 +1,5 @@
 -- The meaning of the words after the program's name.
-use Rattle.std.specs.Prelude.{◌≡◌, ◌==◌, ◌&&◌, ◌||◌, ◌+◌, ◌^◌, ℕ, suc, Bool, true, false, List, [], ◌∷◌, ◌++◌, length, take, drop, codes, Option, Some, None, is_some, option_map, option_and_then, nat_le, slice_index_or, IsTrue, if◌then◌else◌}
+use Rattle.std.specs.Prelude.{◌≡◌, ◌⊎◌, ◌==◌, ◌&&◌, ◌||◌, ◌+◌, ◌^◌, ℕ, suc, Bool, true, false, not, List, [], ◌∷◌, ◌++◌, length, take, drop, codes, Option, Some, None, is_some, option_map, option_and_then, nat_le, slice_index_or, IsTrue, if◌then◌else◌}
 use Rattle.std.specs.Char.{is_ascii_digit}
 use Rattle.std.specs.List.{list_all}
 use Rattle.std.specs.Str.{bytes_eq}
@@ -137,11 +137,11 @@ meaning_of (w ∷ ws) = meaning_after w ws
 -- the command that is built for a meaning
 abbrev pub built : Meaning → Option Command
 built meaning.Plain = Some verb.Plain
+built (meaning.List searchers) = Some (verb.List searchers)
+built (meaning.Sum searchers) = Some (verb.Sum searchers)
 built meaning.Check = Some verb.Check
+built meaning.Generic = Some verb.Generic
 built (meaning.Make family seed) = Some (verb.Make family seed)
-built meaning.Generic = None
-built (meaning.List searchers) = None
-built (meaning.Sum searchers) = None
 
 abbrev pub command_for : List Text → Option Command
 command_for words = option_and_then built (meaning_of words)
@@ -153,11 +153,31 @@ Means words command = command_for words ≡ Some command
 abbrev pub HasMeaning : List Text → Type 0
 HasMeaning words = (command : Command) × Means words command
 
--- whether a command reads its input
+-- whether a command is for more than one searcher
+abbrev pub needs_team : Command → Bool
+needs_team verb.Plain = false
+needs_team (verb.List searchers) = nat_le 2 searchers
+needs_team (verb.Sum searchers) = nat_le 2 searchers
+needs_team verb.Check = false
+needs_team verb.Generic = false
+needs_team (verb.Make family seed) = false
+
+-- whether a command reads its input; for more than one searcher nothing is read
 abbrev pub reads : Command → Bool
 reads verb.Plain = true
+reads (verb.List searchers) = not (nat_le 2 searchers)
+reads (verb.Sum searchers) = not (nat_le 2 searchers)
 reads verb.Check = true
+reads verb.Generic = true
 reads (verb.Make family seed) = false
+
+-- the words ask for more than one searcher
+abbrev pub IsForTeam : List Text → Type 0
+IsForTeam words = (command : Command) × Means words command × IsTrue (needs_team command)
+
+-- the words ask one searcher to walk along a path
+abbrev pub IsWalking : List Text → Type 0
+IsWalking words = (searchers : ℕ) × (nat_le 2 searchers ≡ false) × (Means words (verb.List searchers) ⊎ Means words (verb.Sum searchers))
 
 -- the words ask for a command that reads its input
 abbrev pub IsReading : List Text → Type 0

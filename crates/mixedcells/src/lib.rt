@@ -1,15 +1,19 @@
 //! The top call: from the words and the bytes that are read to the bytes that are written.
 #![tactic(auto)]
 
+mod along;
 mod lines;
 mod outcome;
 mod replies;
 mod top;
+mod walks;
 mod words;
 
 pub use outcome::Outcome;
 pub use top::run_alone;
 pub use words::{Command, Family};
 
+#[cfg(test)]
+mod along_tests;
 #[cfg(test)]
 mod tests;

@@ -1,7 +1,7 @@
 ghost use Rattle.std.specs.Prelude.{◌≡◌};
 ghost use Rattle.mixedcells.specs.Outcomes.{status_of};
 
-use cayley::Cell;
+use cayley::{Cell, TieProof};
 
 /// How a run ended.
 #[derive(Drop)]
@@ -14,7 +14,13 @@ pub enum Outcome {
     Usage,
     /// This line of the input is the first faulty one, and what is wrong with it.
     Format { line: u64, kind: u8 },
-    /// `plain`: the working of this choice of pairs, the least such, has a number that doesn't fit.
+    /// Two further points of a cell are level at once, or one always is. `list` and `sum`: where the
+    /// cell, which is of the path tree, begins or ends. `generic`: the tie that is named for the least
+    /// cell that has one.
+    Tie(TieProof),
+    /// The working of this cell has a number that doesn't fit. `plain`: the least choice of pairs with
+    /// such a working. `generic`: the least cell that has a tie or doesn't fit. `list` and `sum`: a
+    /// cell of the path tree.
     OverflowCell { cell: Cell },
     /// `check`: judging this line needs a number that doesn't fit.
     OverflowLine { line: u64 },
@@ -26,8 +32,10 @@ pub enum Outcome {
     OutOfMemory,
     /// The input is longer than 16,777,216 bytes.
     TooLong,
-    /// `plain`: there are more than 1,000,000 choices of pairs, as many as this in the first supports that exceed it.
+    /// `plain` and `generic`: there are more than 1,000,000 choices of pairs, as many as this in the first supports that exceed it.
     TooMany { choices: u64 },
+    /// `list` and `sum` by two or more searchers, which one alone can't do; nothing was read or written.
+    NeedsTeam,
 }
 
 impl Outcome {
@@ -40,6 +48,7 @@ impl Outcome {
             Outcome::No { .. } => 1,
             Outcome::Usage => 2,
             Outcome::Format { .. } => 3,
+            Outcome::Tie(_) => 4,
             Outcome::OverflowCell { .. } => 5,
             Outcome::OverflowLine { .. } => 5,
             Outcome::ReadFault => 6,
@@ -47,6 +56,7 @@ impl Outcome {
             Outcome::OutOfMemory => 8,
             Outcome::TooLong => 9,
             Outcome::TooMany { .. } => 10,
+            Outcome::NeedsTeam => 11,
         }
     }
 }

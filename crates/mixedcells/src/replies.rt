@@ -1,10 +1,13 @@
 // What each command replies on the bytes of its input.
-ghost use Rattle.std.specs.Prelude.{◌≡◌, IfOk};
+ghost use Rattle.std.specs.Prelude.{◌≡◌, IfOk, false};
 ghost use Rattle.cell_certificate.specs.Written.{AreListed};
-ghost use Rattle.mixedcells.specs.Answers.{IsReply, IsPlainReply, IsListReply, IsCheckReply, IsMadeReply, IsVerdictReply, TellsFault};
+ghost use Rattle.mixedcells.specs.Answers.{IsReply, IsFileReply, IsPlainReply, IsGenericReply, IsListReply, IsCheckReply, IsMadeReply, IsVerdictReply, TellsFault};
+ghost use Rattle.mixedcells.specs.Walks.{IsReachedListing, IsReachedSum, IsWalkReply};
+ghost use Rattle.mixedcells.specs.Words.{needs_team};
 ghost use Rattle.mixedcells.specs.Families as families;
 ghost use Rattle.mixedcells.specs.Families.{IsFit, IsInLimits};
 
+use crate::along;
 use crate::lines::{format_line, no_line, overflow_cell, overflow_line, too_many_line, yes_line};
 use crate::outcome::Outcome;
 use crate::words::{Command, Family};
@@ -24,14 +27,18 @@ pub struct Reply {
     pub text: Vec<u8>,
 }
 
-/// What a command replies on the bytes of its whole input, which are at most 16,777,216.
+/// What a command for one searcher replies on the bytes of its whole input, which are at most 16,777,216.
 pub fn answer(alloc: Global, command: Command, bytes: &[u8]) -> Result<Reply, OutOfMemory>
-    requires { IsFit command }
+    requires fit { IsFit command }
+    requires alone { needs_team command ≡ false }
     ensures { IfOk result (λ r. IsReply command bytes.now r.outcome r.text.items) }
 {
     match command {
         Command::Plain => plain(alloc, bytes),
+        Command::List(_) => list(alloc, bytes),
+        Command::Sum(_) => sum(alloc, bytes),
         Command::Check => check(alloc, bytes),
+        Command::Generic => generic(alloc, bytes),
         Command::Make(family, seed) => made(alloc, family, seed),
     }
 }
@@ -42,6 +49,39 @@ fn plain(alloc: Global, bytes: &[u8]) -> Result<Reply, OutOfMemory>
 {
     match read_problem(alloc, bytes) {
         Ok(file) => listing(alloc, &file),
+        Err(TextFault::Format(fault)) => refusal(alloc, fault),
+        Err(TextFault::OutOfMemory) => Err(OutOfMemory),
+    }
+}
+
+// What `list` replies.
+fn list(alloc: Global, bytes: &[u8]) -> Result<Reply, OutOfMemory>
+    ensures { IfOk result (λ r. IsFileReply (IsWalkReply IsReachedListing) bytes.now r.outcome r.text.items) }
+{
+    match read_problem(alloc, bytes) {
+        Ok(file) => along::list(alloc, &file),
+        Err(TextFault::Format(fault)) => refusal(alloc, fault),
+        Err(TextFault::OutOfMemory) => Err(OutOfMemory),
+    }
+}
+
+// What `sum` replies.
+fn sum(alloc: Global, bytes: &[u8]) -> Result<Reply, OutOfMemory>
+    ensures { IfOk result (λ r. IsFileReply (IsWalkReply IsReachedSum) bytes.now r.outcome r.text.items) }
+{
+    match read_problem(alloc, bytes) {
+        Ok(file) => along::sum(alloc, &file),
+        Err(TextFault::Format(fault)) => refusal(alloc, fault),
+        Err(TextFault::OutOfMemory) => Err(OutOfMemory),
+    }
+}
+
+// What `generic` replies.
+fn generic(alloc: Global, bytes: &[u8]) -> Result<Reply, OutOfMemory>
+    ensures { IfOk result (λ r. IsGenericReply bytes.now r.outcome r.text.items) }
+{
+    match read_problem(alloc, bytes) {
+        Ok(file) => along::generic(alloc, &file),
         Err(TextFault::Format(fault)) => refusal(alloc, fault),
         Err(TextFault::OutOfMemory) => Err(OutOfMemory),
     }

@@ -3,11 +3,11 @@ use edge_io::{MemorySink, MemorySource, SteadySource, read_all};
 use std::alloc::Global;
 use std::test::Fail;
 
-const THREE_POINTS: &[u8] = b"mixedcells 1\ndim 1\nsupport 3\n0 : 0\n1 : -2\n3 : 0\nend\n";
+pub(crate) const THREE_POINTS: &[u8] = b"mixedcells 1\ndim 1\nsupport 3\n0 : 0\n1 : -2\n3 : 0\nend\n";
 
 const SEGMENT: &[u8] = b"mixedcells 1\ndim 1\nsupport 2\n0 : 0\n2 : 1\nend\n";
 
-const SQUARES: &[u8] =
+pub(crate) const SQUARES: &[u8] =
     b"mixedcells 1\ndim 2\nsupport 4\n0 0 : 3\n1 0 : 10\n0 1 : 20\n1 1 : 90\nsupport 4\n0 0 : 5\n1 0 : 40\n0 1 : 9\n1 1 : 1\nend\n";
 
 // The same, moved by (-3, 2).
@@ -26,7 +26,7 @@ fn word(alloc: Global, text: &str) -> Result<Vec<String>, Fail> {
 }
 
 // The status of a run of one word on bytes, and what it wrote.
-fn run(alloc: Global, text: &str, input: &[u8]) -> Result<(u8, Vec<u8>), Fail> {
+pub(crate) fn run(alloc: Global, text: &str, input: &[u8]) -> Result<(u8, Vec<u8>), Fail> {
     let words = word(alloc, text)?;
     let mut source = SteadySource::new(input.to_vec(alloc)?);
     let Ok(mut sink) = MemorySink::new(alloc, 4096, 1000, Vec::new(alloc)) else {
@@ -145,7 +145,7 @@ fn refusals_by_their_lines(rt: HostRuntime) -> Result<(), Fail> {
 }
 
 // Seven supports of the origin and one long edge each, along the axes, whose lengths have no common divisors.
-const LONG_EDGES: &[u8] =
+pub(crate) const LONG_EDGES: &[u8] =
     b"mixedcells 1\ndim 7\nsupport 2\n0 0 0 0 0 0 0 : 0\n1000000 0 0 0 0 0 0 : 0\nsupport 2\n0 0 0 0 0 0 0 : 0\n0 999999 0 0 0 0 0 : 0\nsupport 2\n0 0 0 0 0 0 0 : 0\n0 0 999997 0 0 0 0 : 0\nsupport 2\n0 0 0 0 0 0 0 : 0\n0 0 0 999991 0 0 0 : 0\nsupport 2\n0 0 0 0 0 0 0 : 0\n0 0 0 0 999989 0 0 : 0\nsupport 2\n0 0 0 0 0 0 0 : 0\n0 0 0 0 0 999983 0 : 0\nsupport 2\n0 0 0 0 0 0 0 : 0\n0 0 0 0 0 0 999979 : 0\nend\n";
 
 #[test]
@@ -160,7 +160,7 @@ fn seven_long_edges_overflow(rt: HostRuntime) -> Result<(), Fail> {
 }
 
 // Three level points, their heights perturbed.
-const PERTURBED: &[u8] = b"mixedcells 2\ndim 1\nsupport 3\n0 : 0\n1 : 0\n2 : 0\nend\n";
+pub(crate) const PERTURBED: &[u8] = b"mixedcells 2\ndim 1\nsupport 3\n0 : 0\n1 : 0\n2 : 0\nend\n";
 
 #[test]
 fn perturbed_points_are_listed_and_judged(rt: HostRuntime) -> Result<(), Fail> {
@@ -358,7 +358,7 @@ fn words_of(alloc: Global, line: &str) -> Result<Vec<String>, Fail> {
 }
 
 // The status of a run of a line's words, what it wrote, and how many bytes of five it left in the source.
-fn run_line(alloc: Global, line: &str) -> Result<(u8, Vec<u8>, usize), Fail> {
+pub(crate) fn run_line(alloc: Global, line: &str) -> Result<(u8, Vec<u8>, usize), Fail> {
     let words = words_of(alloc, line)?;
     let mut source = SteadySource::new(b"dim 1".to_vec(alloc)?);
     let Ok(mut sink) = MemorySink::new(alloc, 65_536, 65_536, Vec::new(alloc)) else {

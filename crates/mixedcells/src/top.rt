@@ -1,8 +1,10 @@
 // The top call.
-ghost use Rattle.std.specs.Prelude.{◌≡◌, ◌≢◌, ◌⊎◌, ◌≤◌, [], List, ℕ, Option, Some, Ok, IsTrue, MatchResult, false, map, length, take, string_bytes};
+ghost use Rattle.std.specs.Prelude.{◌≡◌, ◌≢◌, ◌⊎◌, ◌↔◌, ◌≤◌, [], List, ℕ, Option, Some, Ok, IsTrue, MatchResult, false, map, length, take, string_bytes};
 ghost use Rattle.std.specs.Io.KnownBytes.{Appends, Consumes, IsAtEnd};
 ghost use Rattle.edge_io.specs.Faults.{Rose};
 ghost use Rattle.edge_io.specs.Reading.{Stops};
+ghost use Rattle.cayley.specs.Cells.{Cell};
+ghost use Rattle.cayley.specs.declared.found.TieProof.{TieProof};
 ghost use Rattle.cayley.specs.Files.{File, plain_problem};
 ghost use Rattle.support_text.specs.ProblemText.{problem_of};
 ghost use Rattle.support_text.specs.Writing.{problem_text};
@@ -13,10 +15,11 @@ ghost use Rattle.cell_certificate.specs.Written.{AreMixed};
 ghost use Rattle.plain_lister.specs.Choices.{HasTooMany};
 ghost use Rattle.plain_lister.specs.Lists.{AllFit};
 ghost use Rattle.mixedcells.specs.declared.words.meaning.Family.{Family};
-ghost use Rattle.mixedcells.specs.Words.{Means, HasMeaning, IsReading, reads};
+ghost use Rattle.mixedcells.specs.Words.{Means, HasMeaning, IsReading, IsForTeam, IsWalking, needs_team, reads};
 ghost use Rattle.mixedcells.specs.Families.{IsFit, family_file};
 ghost use Rattle.mixedcells.specs.Answers.{IsListingText};
-ghost use Rattle.mixedcells.specs.Runs.{IsInput, IsAnswer, IsCalledFor, IsCutOff, IsFree, IsVerdict, IsWrittenListing, IsSpared, Finishes, TakesNoMore};
+ghost use Rattle.mixedcells.specs.Walks.{IsReachedListing, IsReachedSum, IsSumOf, IsSafe, TreeFits, IsTreeTie, IsTreeUnfit};
+ghost use Rattle.mixedcells.specs.Runs.{AreLoose, IsInput, IsAnswer, IsCalledFor, IsCutOff, IsFree, IsVerdict, IsWrittenListing, IsSpared, Finishes, TakesNoMore};
 
 use crate::outcome::Outcome;
 use crate::replies::{Reply, answer};
@@ -42,9 +45,10 @@ pub fn run_alone<S: Source, K: Sink>(
     ensures cut_off { result ≡ Outcome.WriteFault
         → IsCutOff (IsCalledFor (map string_bytes words.now) (S.left source.old)) (K.held sink.old) (K.held sink.new) (K.faults sink.old) (K.faults sink.new) }
     ensures silent { (result ≡ Outcome.ReadFault) ⊎ (result ≡ Outcome.OutOfMemory) → sink.new ≡ sink.old }
-    // What is called for comes, unless an end fails or there is no memory.
+    // What is called for comes, unless an end fails or there is no memory; of the ends of a walk another one may come.
     ensures exact { (bytes : List ℕ) (outcome : Outcome) (text : List ℕ) → S.left source.old ≡ Some bytes
-        → IsCalledFor (map string_bytes words.now) (Some bytes) outcome text → (result ≡ outcome) ⊎ IsFree result }
+        → IsCalledFor (map string_bytes words.now) (Some bytes) outcome text
+        → (result ≡ outcome) ⊎ IsFree result ⊎ AreLoose (map string_bytes words.now) result outcome }
     // `plain` that ends Ok has written exactly the listing of the file: its mixed cells, each once, in cell order, with their normals.
     ensures listing { (bytes : List ℕ) → S.left source.old ≡ Some bytes → Means (map string_bytes words.now) Command.Plain → result ≡ Outcome.Ok
         → (file : File) × (problem_of bytes ≡ Ok file) × ((text : List ℕ) × IsListingOf file text × Appends (K.held sink.old) (K.held sink.new) text) }
@@ -65,6 +69,33 @@ pub fn run_alone<S: Source, K: Sink>(
     // `check` never refuses a written listing for a reason, and for a number only at a pair's own second point.
     ensures spares { (bytes : List ℕ) → S.left source.old ≡ Some bytes → Means (map string_bytes words.now) Command.Check → IsWrittenListing bytes
         → IsSpared bytes result ⊎ IsFree result }
+    // `list` that ends Ok on a file of perturbed heights, or whose path has no tie, has written exactly the listing of the file.
+    ensures headline { (bytes : List ℕ) (file : File) → S.left source.old ≡ Some bytes → Means (map string_bytes words.now) (Command.List 1)
+        → problem_of bytes ≡ Ok file → IsSafe file → result ≡ Outcome.Ok
+        → (text : List ℕ) × IsListingOf file text × Appends (K.held sink.old) (K.held sink.new) text }
+    // On every file it has written mixed cells alone: those to which the path leads, each once, in cell order, with their normals.
+    ensures reached { (bytes : List ℕ) → S.left source.old ≡ Some bytes → Means (map string_bytes words.now) (Command.List 1) → result ≡ Outcome.Ok
+        → (file : File) × (problem_of bytes ≡ Ok file) × ((text : List ℕ) × IsReachedListing file text × Appends (K.held sink.old) (K.held sink.new) text) }
+    // `sum` that ends Ok has written how many mixed cells there are and the size of the path tree.
+    ensures headline_sum { (bytes : List ℕ) (file : File) → S.left source.old ≡ Some bytes → Means (map string_bytes words.now) (Command.Sum 1)
+        → problem_of bytes ≡ Ok file → IsSafe file → result ≡ Outcome.Ok
+        → (text : List ℕ) × IsSumOf file text × Appends (K.held sink.old) (K.held sink.new) text }
+    ensures reached_sum { (bytes : List ℕ) → S.left source.old ≡ Some bytes → Means (map string_bytes words.now) (Command.Sum 1) → result ≡ Outcome.Ok
+        → (file : File) × (problem_of bytes ≡ Ok file) × ((text : List ℕ) × IsReachedSum file text × Appends (K.held sink.old) (K.held sink.new) text) }
+    // A walk is refused for a tie at an end of a cell of the path tree alone, and never in version 2; and for a cell of it that doesn't fit.
+    ensures tie_cause { (bytes : List ℕ) (proof : TieProof) → S.left source.old ≡ Some bytes → IsWalking (map string_bytes words.now) → result ≡ Outcome.Tie proof
+        → (file : File) × (problem_of bytes ≡ Ok file) × IsTreeTie file proof }
+    ensures overflow_cause { (bytes : List ℕ) (cell : Cell) → S.left source.old ≡ Some bytes → IsWalking (map string_bytes words.now) → result ≡ Outcome.OverflowCell cell
+        → (file : File) × (problem_of bytes ≡ Ok file) × IsTreeUnfit file cell }
+    // It ends well where the heights are perturbed or the path has no tie, and the working of each cell of the path tree fits.
+    ensures walked { (bytes : List ℕ) (file : File) → S.left source.old ≡ Some bytes → length bytes ≤ 16777216 → IsWalking (map string_bytes words.now)
+        → problem_of bytes ≡ Ok file → IsSafe file → TreeFits file → (result ≡ Outcome.Ok) ⊎ IsFree result }
+    // `generic` that ends Ok shows that the path has no tie.
+    ensures tie_free { (bytes : List ℕ) (file : File) → S.left source.old ≡ Some bytes → Means (map string_bytes words.now) Command.Generic
+        → problem_of bytes ≡ Ok file → result ≡ Outcome.Ok → IsSafe file }
+    // More than one searcher are wanted exactly where the words ask for them; nothing is read or written then.
+    ensures needs_team { (result ≡ Outcome.NeedsTeam) ↔ IsForTeam (map string_bytes words.now) }
+    ensures untouched { result ≡ Outcome.NeedsTeam → (source.new ≡ source.old) × (sink.new ≡ sink.old) }
     ensures read_fault { result ≡ Outcome.ReadFault → Rose (S.faults source.old) (S.faults source.new) }
     // What `make` is asked for comes, whatever the source is, unless the sink fails or there is no memory.
     ensures made { (family : Family) (seed : ℕ) → Means (map string_bytes words.now) (Command.Make family seed) → (result ≡ Outcome.Ok) ⊎ IsFree result }
@@ -83,7 +114,10 @@ pub fn run_alone<S: Source, K: Sink>(
     ensures sink_later { K.faults sink.old ≤ K.faults sink.new }
 {
     match command_of(words) {
-        Some(_) => {
+        Some(command) => {
+            if command.needs_team() {
+                return Outcome::NeedsTeam;
+            }
             let Ok(command) = read_command(alloc, words) else {
                 return Outcome::OutOfMemory;
             };
@@ -100,7 +134,8 @@ fn run_command<S: Source, K: Sink>(
     source: &mut S,
     sink: &mut K,
 ) -> Outcome
-    requires { IsFit command }
+    requires fit { IsFit command }
+    requires alone { needs_team command ≡ false }
     ensures written { ¬ (IsFree result) → (bytes : List ℕ) × (text : List ℕ)
         × IsInput (S.left source.old) bytes × IsAnswer command bytes result text
         × Appends (K.held sink.old) (K.held sink.new) text }

@@ -23,36 +23,54 @@ use wide_int::OutOfMemory;
 pub enum Command {
     /// `plain`: list the mixed cells of a problem file by trying every choice of pairs.
     Plain,
+    /// `list`: list the mixed cells of a problem file along its path, by this many searchers.
+    List(u64),
+    /// `sum`: count them and the cells of the path tree, by this many searchers.
+    Sum(u64),
     /// `check`: judge the cell lines of a listing, without trust in whoever wrote it.
     Check,
+    /// `generic`: tell whether the path of a problem file has a tie.
+    Generic,
     /// `make`: write the problem file of this family with the heights behind this seed.
     Make(Family, u64),
 }
 
 impl Command {
-    /// Whether the command reads its input.
+    /// Whether the command reads its input; for more than one searcher it doesn't.
     pub fn reads(self) -> bool
         ensures { result ≡ spec.reads self }
     {
         match self {
             Command::Plain => true,
+            Command::List(searchers) | Command::Sum(searchers) => !(2 <= searchers),
             Command::Check => true,
+            Command::Generic => true,
             Command::Make(_, _) => false,
+        }
+    }
+
+    /// Whether the command is for more than one searcher.
+    pub fn needs_team(self) -> bool
+        ensures { result ≡ spec.needs_team self }
+    {
+        match self {
+            Command::List(searchers) | Command::Sum(searchers) => 2 <= searchers,
+            _ => false,
         }
     }
 }
 
-// The command that is built for a meaning, if it is one of those that there are.
+// The command that is built for a meaning.
 fn built(meaning: Meaning) -> Option<Command>
     ensures { result ≡ spec.built meaning }
 {
     match meaning {
         Meaning::Plain => Some(Command::Plain),
+        Meaning::List(searchers) => Some(Command::List(searchers)),
+        Meaning::Sum(searchers) => Some(Command::Sum(searchers)),
         Meaning::Check => Some(Command::Check),
+        Meaning::Generic => Some(Command::Generic),
         Meaning::Make(family, seed) => Some(Command::Make(family, seed)),
-        Meaning::Generic => None,
-        Meaning::List(_) => None,
-        Meaning::Sum(_) => None,
     }
 }
 

@@ -109,7 +109,10 @@ within (w ∷ ws) =
 fit_by : (o : Option Meaning) (c : Command) → IfSome o IsWithin → option_and_then built o ≡ Some c → IsFit c
 fit_by None c h e = cc
 fit_by (Some m) verb.Plain h e = tt
+fit_by (Some m) (verb.List n) h e = tt
+fit_by (Some m) (verb.Sum n) h e = tt
 fit_by (Some m) verb.Check h e = tt
+fit_by (Some m) verb.Generic h e = tt
 fit_by (Some (meaning.Make g k)) (verb.Make f s) h e = let same : g ≡ f = cc in subst IsInLimits same h
 fit_by (Some meaning.Plain) (verb.Make f s) h e = cc
 fit_by (Some meaning.Check) (verb.Make f s) h e = cc

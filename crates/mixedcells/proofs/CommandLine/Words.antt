@@ -1,5 +1,5 @@
 -- Lists of words, by places and lengths.
-use Rattle.std.proofs.Common.{◌≡◌, ◌≢◌, false, List, [], ◌∷◌, length, refl, sym, subst, arith, Option, Some, None, option_map, option_and_then, IsTrue}
+use Rattle.std.proofs.Common.{◌≡◌, ◌≢◌, Bool, true, false, List, [], ◌∷◌, length, refl, sym, subst, arith, Option, Some, None, option_map, option_and_then, IsTrue}
 use Rattle.std.specs.Prelude.{MatchOption}
 use Rattle.std.specs.Box.{box_value}
 use Rattle.clap.specs.Walk.{Text, Row, rows_of}
@@ -8,9 +8,8 @@ use Rattle.clap.specs.Simple.{subcommand_rows_of}
 use Rattle.clap.specs.declared.parser.matches.ArgMatches.{ArgMatches}
 use Rattle.clap.specs.declared.parser.matches.ArgMatches.TheViews.{out-ArgMatches, out-SubCommand}
 use Rattle.mixedcells.specs.declared.words.Command.{Command}
-use Rattle.mixedcells.specs.declared.words.Command.TheVariants as verb
 use Rattle.mixedcells.specs.declared.words.meaning.Meaning.{Meaning}
-use Rattle.mixedcells.specs.Words.{word_at, family_of, cyclic_named, scatter_named, built, meaning_of, command_for, Means, HasMeaning, IsReading, reads}
+use Rattle.mixedcells.specs.Words.{word_at, family_of, cyclic_named, scatter_named, built, meaning_of, command_for, Means, HasMeaning, IsReading, IsForTeam, needs_team, reads}
 
 pub two_words : (xs : List Text) → length xs ≡ 2 → cyclic_named (word_at xs 0) (word_at xs 1) ≡ family_of xs
 two_words [] l = absurd (omega (arith, l))
@@ -60,9 +59,11 @@ one_meaning words c d h k = once (command_for words) c d h k
 
 -- words that don't ask for a command that reads its input, but for a command, ask for one that doesn't
 pub no_reader : (words : List Text) (c : Command) → Means words c → ¬ (IsReading words) → reads c ≡ false
-no_reader words verb.Plain h n = absurd (n (verb.Plain, h, refl))
-no_reader words verb.Check h n = absurd (n (verb.Check, h, refl))
-no_reader words (verb.Make family seed) h n = refl
+no_reader words c h n = not_read (reads c) (λ e. n (c, h, e))
+  where
+    not_read : (b : Bool) → ¬ (IsTrue b) → b ≡ false
+    not_read true f = absurd (f refl)
+    not_read false f = refl
 
 pub reader : (words : List Text) (c : Command) → Means words c → IsReading words → IsTrue (reads c)
 reader words c h r = subst (λ d. IsTrue (reads d)) (one_meaning words r.0 c r.1 h) r.2
@@ -74,3 +75,10 @@ none_meant words e h = let f = h.1 in cc
 pub told : (words : List Text) (o : Option Command) → o ≡ command_for words → MatchOption o (¬ (HasMeaning words)) (λ c. Means words c)
 told words None e = λ h. none_meant words (sym e) h
 told words (Some c) e = sym e
+
+-- the words ask for more than one searcher exactly where the command that they mean does
+pub team_of : (words : List Text) (c : Command) → Means words c → IsForTeam words → IsTrue (needs_team c)
+team_of words c h t = subst (λ d. IsTrue (needs_team d)) (one_meaning words t.0 c t.1 h) t.2
+
+pub same_team : (words : List Text) (c d : Command) → Means words c → Means words d → needs_team c ≡ false → needs_team d ≡ false
+same_team words c d h k e = subst (λ x. needs_team x ≡ false) (one_meaning words c d h k) e

@@ -1,8 +1,13 @@
-use Rattle.std.proofs.Common.{inr, Some, map, string_bytes}
-use Rattle.mixedcells.proofs.CommandLine.Words.{no_reader, reader}
+use Rattle.std.proofs.Common.{◌≡◌, inr, Some, [], map, string_bytes, ap, arith, refl, rules, false, IsTrue}
+use Rattle.mixedcells.specs.Words.{needs_team}
+use Rattle.mixedcells.specs.Outcomes.{status_of}
+use Rattle.mixedcells.specs.declared.words.Command.TheVariants.{Plain, Check, Make}
+use Rattle.mixedcells.proofs.CommandLine.Words.{no_reader, reader, same_team}
 use Rattle.mixedcells.proofs.CommandLine.Ranges.{fits}
 use Rattle.mixedcells.proofs.Ended.{appends_as, usage_cut, usage_written}
-use Rattle.mixedcells.proofs.Exact.{called_made, comes, makes, lists, ended_listed, ok_other, known}
+use Rattle.mixedcells.proofs.Exact.{tie_other, cell_other, team_other, called_made, comes, makes, lists, ended_listed, ok_other, known}
+use Rattle.mixedcells.proofs.AlongPaths as along
+use Rattle.mixedcells.proofs.Teams.{no_team, asked_for, usage_alone, meant_team, team_called, appends_none, no_other, no_walk, no_reading, walking_meant}
 use Rattle.mixedcells.proofs.Judged.{checked, judged, spares, plain_spared}
 use Rattle.mixedcells.proofs.top.run_alone.Goals as goal
 
@@ -48,6 +53,57 @@ pub returns-in-Ok-clause-spares : goal.returns-in-Ok-clause-spares
 returns-in-Ok-clause-spares g c = λ bytes left means written.
     spares (map string_bytes c.args.words.now) bytes means written _ (λ other. let w = returns-in-Ok-clause-written g c other in (w.0, known (map string_bytes c.args.words.now) _ bytes _ _ left w.1))
 
+pub returns-in-Ok-clause-headline : goal.returns-in-Ok-clause-headline
+returns-in-Ok-clause-headline g c = λ bytes file left means f safe ok.
+    let w = returns-in-Ok-clause-written g c (ok_other _ ok) in
+    (w.0, along.headline (map string_bytes c.args.words.now) bytes file _ _ w.0 left means f safe ok w.1, w.2)
+
+pub returns-in-Ok-clause-headline_sum : goal.returns-in-Ok-clause-headline_sum
+returns-in-Ok-clause-headline_sum g c = λ bytes file left means f safe ok.
+    let w = returns-in-Ok-clause-written g c (ok_other _ ok) in
+    (w.0, along.headline_sum (map string_bytes c.args.words.now) bytes file _ _ w.0 left means f safe ok w.1, w.2)
+
+pub returns-in-Ok-clause-reached : goal.returns-in-Ok-clause-reached
+returns-in-Ok-clause-reached g c = λ bytes left means ok.
+    let w = returns-in-Ok-clause-written g c (ok_other _ ok) in
+    let l = along.reached (map string_bytes c.args.words.now) bytes _ _ w.0 left means ok w.1 in (l.0, l.1, (w.0, l.2, w.2))
+
+pub returns-in-Ok-clause-reached_sum : goal.returns-in-Ok-clause-reached_sum
+returns-in-Ok-clause-reached_sum g c = λ bytes left means ok.
+    let w = returns-in-Ok-clause-written g c (ok_other _ ok) in
+    let l = along.reached_sum (map string_bytes c.args.words.now) bytes _ _ w.0 left means ok w.1 in (l.0, l.1, (w.0, l.2, w.2))
+
+pub returns-in-Ok-clause-tie_cause : goal.returns-in-Ok-clause-tie_cause
+returns-in-Ok-clause-tie_cause g c = λ bytes proof left walks is.
+    let w = returns-in-Ok-clause-written g c (tie_other _ proof is) in
+    along.tie_cause (map string_bytes c.args.words.now) bytes proof _ _ w.0 left walks is w.1
+
+pub returns-in-Ok-clause-overflow_cause : goal.returns-in-Ok-clause-overflow_cause
+returns-in-Ok-clause-overflow_cause g c = λ bytes cell left walks is.
+    let w = returns-in-Ok-clause-written g c (cell_other _ cell is) in
+    along.overflow_cause (map string_bytes c.args.words.now) bytes cell _ _ w.0 left walks is w.1
+
+pub returns-in-Ok-clause-tie_free : goal.returns-in-Ok-clause-tie_free
+returns-in-Ok-clause-tie_free g c = λ bytes file left means f ok.
+    let w = returns-in-Ok-clause-written g c (ok_other _ ok) in
+    along.tie_free (map string_bytes c.args.words.now) bytes file _ _ w.0 left means f ok w.1
+
+pub returns-in-Ok-clause-walked : goal.returns-in-Ok-clause-walked
+returns-in-Ok-clause-walked g c = λ bytes file left short walks f safe fits.
+    along.walked (map string_bytes c.args.words.now) bytes file _ short walks f safe fits (λ other. let w = returns-in-Ok-clause-written g c other in (w.0, known (map string_bytes c.args.words.now) _ bytes _ _ left w.1))
+
+pub returns-in-Ok-clause-needs_team : goal.returns-in-Ok-clause-needs_team
+returns-in-Ok-clause-needs_team g c =
+    let few : needs_team c.in-Some.command ≡ false = search rules in (
+      (λ e. let w = returns-in-Ok-clause-written g c (team_other _ e) in asked_for (map string_bytes c.args.words.now) _ _ w.0 e w.1),
+      (λ t. no_team (map string_bytes c.args.words.now) c.in-Ok.command c.in-Ok.ensures (same_team (map string_bytes c.args.words.now) c.in-Some.command c.in-Ok.command c.in-Some.ensures.meaning c.in-Ok.ensures few) t),
+    )
+
+pub returns-in-Ok-clause-untouched : goal.returns-in-Ok-clause-untouched
+returns-in-Ok-clause-untouched g c = λ e.
+    let few : needs_team c.in-Some.command ≡ false = search rules in
+    no_team (map string_bytes c.args.words.now) c.in-Ok.command c.in-Ok.ensures (same_team (map string_bytes c.args.words.now) c.in-Some.command c.in-Ok.command c.in-Some.ensures.meaning c.in-Ok.ensures few) ((returns-in-Ok-clause-needs_team g c).0 e)
+
 pub returns-in-Ok-clause-made : goal.returns-in-Ok-clause-made
 returns-in-Ok-clause-made g c = λ family seed means.
     makes (map string_bytes c.args.words.now) _ family seed _ means (λ other. let w = returns-in-Ok-clause-written g c other in (w.0, w.1))
@@ -67,10 +123,88 @@ pub returns-in-Ok-clause-whole : goal.returns-in-Ok-clause-whole
 returns-in-Ok-clause-whole g c = λ other reading long. c.run_command.ensures.whole other (reader (map string_bytes c.args.words.now) c.in-Ok.command c.in-Ok.ensures reading) long
 
 pub read_command-requires : goal.read_command-requires
-read_command-requires g c = (c.in-Some.field-0, c.in-Some.ensures.meaning)
+read_command-requires g c = (c.in-Some.command, c.in-Some.ensures.meaning)
 
 pub run_command-requires : goal.run_command-requires
-run_command-requires g c = fits (map string_bytes c.args.words.now) c.in-Ok.command c.in-Ok.ensures
+run_command-requires g c =
+    let few : needs_team c.in-Some.command ≡ false = search rules in
+    record {
+      fit = fits (map string_bytes c.args.words.now) c.in-Ok.command c.in-Ok.ensures;
+      alone = (same_team (map string_bytes c.args.words.now) c.in-Some.command c.in-Ok.command c.in-Some.ensures.meaning c.in-Ok.ensures few);
+    }
+
+pub returns-in_default-clause-needs_team : goal.returns-in_default-clause-needs_team
+returns-in_default-clause-needs_team g c =
+    let few : needs_team c.in-Some.command ≡ false = search rules in (
+      (λ e. absurd (let f = ap status_of e in omega (arith, f))),
+      (λ t. no_team (map string_bytes c.args.words.now) c.in-Some.command c.in-Some.ensures.meaning few t),
+    )
+
+pub returns-then-needs_team-clause-written : goal.returns-then-needs_team-clause-written
+returns-then-needs_team-clause-written g c = λ other.
+    let team : IsTrue (needs_team c.in-Some.command) = search rules in
+    ([], team_called (map string_bytes c.args.words.now) _ c.in-Some.command c.in-Some.ensures.meaning team, appends_none _)
+
+pub returns-then-needs_team-clause-exact : goal.returns-then-needs_team-clause-exact
+returns-then-needs_team-clause-exact g c = λ bytes o t left h.
+    let team : IsTrue (needs_team c.in-Some.command) = search rules in
+    comes (map string_bytes c.args.words.now) bytes o _ t h (λ other. ([], team_called (map string_bytes c.args.words.now) (Some bytes) c.in-Some.command c.in-Some.ensures.meaning team))
+
+pub returns-then-needs_team-clause-complete : goal.returns-then-needs_team-clause-complete
+returns-then-needs_team-clause-complete g c = λ bytes file left short means e many fit.
+    let team : IsTrue (needs_team c.in-Some.command) = search rules in
+    no_other (map string_bytes c.args.words.now) c.in-Some.command Plain c.in-Some.ensures.meaning team refl means
+
+pub returns-then-needs_team-clause-judged : goal.returns-then-needs_team-clause-judged
+returns-then-needs_team-clause-judged g c = λ bytes listing left short means text fit.
+    let team : IsTrue (needs_team c.in-Some.command) = search rules in
+    no_other (map string_bytes c.args.words.now) c.in-Some.command Check c.in-Some.ensures.meaning team refl means
+
+pub returns-then-needs_team-clause-spares : goal.returns-then-needs_team-clause-spares
+returns-then-needs_team-clause-spares g c = λ bytes left means written.
+    let team : IsTrue (needs_team c.in-Some.command) = search rules in
+    no_other (map string_bytes c.args.words.now) c.in-Some.command Check c.in-Some.ensures.meaning team refl means
+
+pub returns-then-needs_team-clause-made : goal.returns-then-needs_team-clause-made
+returns-then-needs_team-clause-made g c = λ family seed means.
+    let team : IsTrue (needs_team c.in-Some.command) = search rules in
+    no_other (map string_bytes c.args.words.now) c.in-Some.command (Make family seed) c.in-Some.ensures.meaning team refl means
+
+pub returns-then-needs_team-clause-walked : goal.returns-then-needs_team-clause-walked
+returns-then-needs_team-clause-walked g c = λ bytes file left short walks f safe fits.
+    let team : IsTrue (needs_team c.in-Some.command) = search rules in
+    no_walk (map string_bytes c.args.words.now) c.in-Some.command c.in-Some.ensures.meaning team walks
+
+pub returns-then-needs_team-clause-needs_team : goal.returns-then-needs_team-clause-needs_team
+returns-then-needs_team-clause-needs_team g c =
+    let team : IsTrue (needs_team c.in-Some.command) = search rules in
+    ((λ e. (c.in-Some.command, c.in-Some.ensures.meaning, team)), (λ t. refl))
+
+pub returns-then-needs_team-clause-usage : goal.returns-then-needs_team-clause-usage
+returns-then-needs_team-clause-usage g c = λ none. absurd (none (c.in-Some.command, c.in-Some.ensures.meaning))
+
+pub returns-then-needs_team-clause-whole : goal.returns-then-needs_team-clause-whole
+returns-then-needs_team-clause-whole g c = λ other reading long.
+    let team : IsTrue (needs_team c.in-Some.command) = search rules in
+    no_reading (map string_bytes c.args.words.now) c.in-Some.command c.in-Some.ensures.meaning team reading
+
+pub returns-in-None-clause-needs_team : goal.returns-in-None-clause-needs_team
+returns-in-None-clause-needs_team g c = (
+  (λ e. usage_alone _ _ _ _ _ _ c.finish.ensures.ends e),
+  (λ t. meant_team (map string_bytes c.args.words.now) c.in-None.ensures.meaning t),
+)
+
+pub returns-in-None-clause-untouched : goal.returns-in-None-clause-untouched
+returns-in-None-clause-untouched g c = λ e. usage_alone _ _ _ _ _ _ c.finish.ensures.ends e
+
+pub returns-in-None-clause-walked : goal.returns-in-None-clause-walked
+returns-in-None-clause-walked g c = λ bytes file left short walks f safe fits. absurd (c.in-None.ensures.meaning (walking_meant (map string_bytes c.args.words.now) walks))
+
+pub returns-in-None-clause-tie_cause : goal.returns-in-None-clause-tie_cause
+returns-in-None-clause-tie_cause g c = λ bytes proof left walks is. absurd (c.in-None.ensures.meaning (walking_meant (map string_bytes c.args.words.now) walks))
+
+pub returns-in-None-clause-overflow_cause : goal.returns-in-None-clause-overflow_cause
+returns-in-None-clause-overflow_cause g c = λ bytes cell left walks is. absurd (c.in-None.ensures.meaning (walking_meant (map string_bytes c.args.words.now) walks))
 
 pub returns-in-None-clause-cut_off : goal.returns-in-None-clause-cut_off
 returns-in-None-clause-cut_off g c = usage_cut (map string_bytes c.args.words.now) _ _ _ _ _ _ c.in-None.ensures.meaning c.finish.ensures.ends
