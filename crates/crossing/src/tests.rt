@@ -206,7 +206,10 @@ fn ties_at_the_ends(rt: HostRuntime) {
     let alloc = rt.alloc();
     assert_eq!(rt; tie_of(&[]), None);
     assert_eq!(rt; tie_of(&[line(alloc, -4, 2), line(alloc, 9, -1)]), None);
-    assert_eq!(rt; tie_of(&[line(alloc, 6, -2), line(alloc, 9, -3)]), tie(3, 1, Some(2)));
+    assert_eq!(rt;
+        tie_of(&[line(alloc, 6, -2), line(alloc, 9, -3)]),
+        tie(3, 1, Some(2))
+    );
     assert_eq!(rt;
         tie_of(&[
             line(alloc, 6, -2),
@@ -222,7 +225,10 @@ fn ties_at_the_ends(rt: HostRuntime) {
 #[test]
 fn ties_of_lines_that_are_never_all_positive(rt: HostRuntime) {
     let alloc = rt.alloc();
-    assert_eq!(rt; tie_of(&[line(alloc, 0, 1), line(alloc, 0, -1)]), tie(0, 1, Some(2)));
+    assert_eq!(rt;
+        tie_of(&[line(alloc, 0, 1), line(alloc, 0, -1)]),
+        tie(0, 1, Some(2))
+    );
     assert_eq!(rt;
         tie_of(&[
             line(alloc, 4, -2),
@@ -233,7 +239,10 @@ fn ties_of_lines_that_are_never_all_positive(rt: HostRuntime) {
         tie(2, 1, Some(3))
     );
     assert_eq!(rt; tie_of(&[line(alloc, -1, 1), line(alloc, 0, -1)]), None);
-    assert_eq!(rt; tie_of(&[line(alloc, 0, 1), line(alloc, 0, -1), line(alloc, -1, 0)]), None);
+    assert_eq!(rt;
+        tie_of(&[line(alloc, 0, 1), line(alloc, 0, -1), line(alloc, -1, 0)]),
+        None
+    );
 }
 
 #[test]
@@ -244,6 +253,9 @@ fn ties_at_all_times(rt: HostRuntime) {
         tie_of(&[line(alloc, -4, 2), line(alloc, 0, 0), line(alloc, 6, -2)]),
         tie(2, 2, None)
     );
-    assert_eq!(rt; tie_of(&[line(alloc, 6, -2), line(alloc, 0, 0)]), tie(3, 2, None));
+    assert_eq!(rt;
+        tie_of(&[line(alloc, 6, -2), line(alloc, 0, 0)]),
+        tie(3, 2, None)
+    );
     assert_eq!(rt; tie_of(&[line(alloc, 0, 0), line(alloc, -1, 0)]), None);
 }

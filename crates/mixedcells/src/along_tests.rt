@@ -1,5 +1,5 @@
 // Runs of `list`, `sum` and `generic`.
-use crate::tests::{SQUARES, THREE_POINTS, LONG_EDGES, PERTURBED, run, run_line};
+use crate::tests::{LONG_EDGES, PERTURBED, SQUARES, THREE_POINTS, run, run_line};
 use std::alloc::Global;
 use std::test::Fail;
 
@@ -22,8 +22,7 @@ const TWO_LEVEL: &[u8] = b"mixedcells 1\ndim 1\nsupport 2\n0 : 7\n1 : 7\nend\n";
 
 const TWO_PERTURBED: &[u8] = b"mixedcells 2\ndim 1\nsupport 2\n0 : 7\n1 : 7\nend\n";
 
-const SQUARE_CELLS: &[u8] =
-    b"cells 2\ncell 1 2 1 4 : -7 11 / 1\ncell 1 3 3 4 : 8 -17 / 1\nend\n";
+const SQUARE_CELLS: &[u8] = b"cells 2\ncell 1 2 1 4 : -7 11 / 1\ncell 1 3 3 4 : 8 -17 / 1\nend\n";
 
 // The file's text and then its cells.
 fn listing_of(alloc: Global, file: &[u8], cells: &[u8]) -> Result<Vec<u8>, Fail> {
@@ -102,12 +101,32 @@ fn sizes_of_path_trees(rt: HostRuntime) -> Result<(), Fail> {
 #[test]
 fn refusals_along_paths(rt: HostRuntime) -> Result<(), Fail> {
     let rows: [(&str, &[u8], u8, &[u8]); 7] = [
-        ("list", TWO_LEVEL, 4, b"tie: cell 3 4 at 7 / 1 points 1 1 1 2\n"),
-        ("sum", TWO_LEVEL, 4, b"tie: cell 3 4 at 7 / 1 points 1 1 1 2\n"),
-        ("generic", TWO_LEVEL, 4, b"tie: cell 1 2 at 7 / 1 points 1 3 1 4\n"),
+        (
+            "list",
+            TWO_LEVEL,
+            4,
+            b"tie: cell 3 4 at 7 / 1 points 1 1 1 2\n",
+        ),
+        (
+            "sum",
+            TWO_LEVEL,
+            4,
+            b"tie: cell 3 4 at 7 / 1 points 1 1 1 2\n",
+        ),
+        (
+            "generic",
+            TWO_LEVEL,
+            4,
+            b"tie: cell 1 2 at 7 / 1 points 1 3 1 4\n",
+        ),
         ("generic", TWO_PERTURBED, 0, b"tie free\n"),
         ("generic", STARTED_SQUARES, 0, b"tie free\n"),
-        ("list", LONG_EDGES, 5, b"overflow: cell 3 4 3 5 3 6 3 7 3 8 3 9 3 10\n"),
+        (
+            "list",
+            LONG_EDGES,
+            5,
+            b"overflow: cell 3 4 3 5 3 6 3 7 3 8 3 9 3 10\n",
+        ),
         ("list", b"", 3, b"format: line 1 kind 8\n"),
     ];
     for (command, file, want, line) in rows {
@@ -146,7 +165,13 @@ fn more_searchers_are_a_team(rt: HostRuntime) -> Result<(), Fail> {
 
 #[test]
 fn one_searcher_reads(rt: HostRuntime) -> Result<(), Fail> {
-    let rows = ["list --searchers 1", "sum --searchers=01", "list", "sum", "generic"];
+    let rows = [
+        "list --searchers 1",
+        "sum --searchers=01",
+        "list",
+        "sum",
+        "generic",
+    ];
     for line in rows {
         let (status, written, left) = run_line(rt.alloc(), line)?;
         assert_eq!(rt; status, 3);

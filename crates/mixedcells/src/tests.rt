@@ -3,7 +3,8 @@ use edge_io::{MemorySink, MemorySource, SteadySource, read_all};
 use std::alloc::Global;
 use std::test::Fail;
 
-pub(crate) const THREE_POINTS: &[u8] = b"mixedcells 1\ndim 1\nsupport 3\n0 : 0\n1 : -2\n3 : 0\nend\n";
+pub(crate) const THREE_POINTS: &[u8] =
+    b"mixedcells 1\ndim 1\nsupport 3\n0 : 0\n1 : -2\n3 : 0\nend\n";
 
 const SEGMENT: &[u8] = b"mixedcells 1\ndim 1\nsupport 2\n0 : 0\n2 : 1\nend\n";
 

@@ -146,8 +146,11 @@ module _ (p : Problem) (cell : Cell) (well : IsProblem p) (of : IsOf p cell) (in
     (λ z a. let r = always_back z a in h.0 r.0 r.1),
     elim h.1 [
       | inl k ↦ inl (lower_cell t k.0, two t k.1)
-      | inr k ↦ inr ((λ u z w l. let r = two_places p cell ls places (IsZeroThen u.entries u.over) (IsLevelThen p cell u) (level_there u) (level_back u) z w l.1 in
-          k.0 u.entries u.over r.0 r.1 u.positive (lower_lines u l.0, r.2)), (upper_cell t k.1.0, two t k.1.1))
+      | inr k ↦ inr (
+        (λ u z w l. let r = two_places p cell ls places (IsZeroThen u.entries u.over) (IsLevelThen p cell u) (level_there u) (level_back u) z w l.1 in
+            k.0 u.entries u.over r.0 r.1 u.positive (lower_lines u l.0, r.2)),
+        (upper_cell t k.1.0, two t k.1.1),
+      )
     ],
   )
     where

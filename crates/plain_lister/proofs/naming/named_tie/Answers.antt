@@ -37,5 +37,5 @@ returns g c =
     let found = c.by_points.result in (
       e.whole,
       named_points p cell r.valid.shape.problem r.of (e.normal p refl).independent ls e.places e.sides tie found (subst (λ l. IsTie l tie) c.deref.ensures.value c.in-Some.ensures)
-      (subst (λ l. IsByPoints l tie found) c.deref-in-Some.ensures.value c.by_points.ensures),
+          (subst (λ l. IsByPoints l tie found) c.deref-in-Some.ensures.value c.by_points.ensures),
     )

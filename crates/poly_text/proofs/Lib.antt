@@ -1,0 +1,10 @@
+pub mod ExponentLists
+pub mod Entries
+pub mod TermSums
+pub mod WrittenReads
+pub mod ReadWrites
+pub mod SymbolWords
+pub mod SymbolLoops
+pub mod SmallValues
+pub mod Lengths
+pub mod Negatives

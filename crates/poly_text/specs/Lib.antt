@@ -1,0 +1,9 @@
+pub mod Maps
+pub mod Bounds
+pub mod Collecting
+pub mod Faults
+pub mod Symbols
+pub mod Trees
+pub mod Steps
+pub mod Reading
+pub mod SystemText
