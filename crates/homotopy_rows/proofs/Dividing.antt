@@ -1,0 +1,87 @@
+-- common divisors of lists of numbers, and their quotients
+use Rattle.std.proofs.Common.{◌≡◌, ◌≢◌, ℕ, zero, suc, ◌+◌, ◌<◌, ◌≤◌, ◌<ℤ◌, ◌≤ℤ◌, List, [], ◌∷◌, ◌++◌, length, map, flat_map, take, drop, get_or, set, unsigned_abs, arith, refl, sym, ap, ap₂, subst, ◌∙◌, append-nil, take_all}
+use Rattle.std.proofs.lemmas.Int.{ints}
+use Rattle.std.proofs.Math.IntN.{ℤ, pos, negsuc, ◌*ℤ◌}
+use Rattle.std.proofs.Math.Nat.{one-dvd}
+use Prim.Native.Nat.{◌∣◌}
+use Rattle.std.specs.Int.{IsGcd}
+use Rattle.std.proofs.lemmas.List.{take_more, append_assoc, take-append-drop}
+use Rattle.std.proofs.lemmas.List.Edits.{map_over_more}
+use Rattle.std.proofs.lemmas.Grind.{flat_map-append}
+use Rattle.std.proofs.lemmas.Nat.Gcd.{dvd_trans}
+use Rattle.int_vectors.specs.Contents.{content, DividesEach, IsContent, divided}
+use Rattle.int_vectors.specs.Vectors.{Each, scale}
+use Rattle.int_vectors.proofs.EntryDivisors.{scale_cancel, scale-divided}
+use Rattle.homotopy_rows.specs.Powers.{all_of}
+
+-- ---- divisors of lists side by side
+divides_trans : (d g : ℕ) (xs : List ℤ) → d ∣ g → DividesEach g xs → DividesEach d xs
+divides_trans d g [] h k = tt
+divides_trans d g (x ∷ xs) h k = (dvd_trans d h k.0, divides_trans d g xs h k.1)
+
+divides_both : (d : ℕ) (xs ys : List ℤ) → DividesEach d xs → DividesEach d ys → DividesEach d (xs ++ ys)
+divides_both d [] ys h k = k
+divides_both d (x ∷ xs) ys h k = (h.0, divides_both d xs ys h.1 k)
+
+divides_apart : (d : ℕ) (xs ys : List ℤ) → DividesEach d (xs ++ ys) → DividesEach d xs × DividesEach d ys
+divides_apart d [] ys h = (tt, h)
+divides_apart d (x ∷ xs) ys h = let k = divides_apart d xs ys h.1 in ((h.0, k.0), k.1)
+
+one_divides : (xs : List ℤ) → DividesEach 1 xs
+one_divides [] = tt
+one_divides (x ∷ xs) = (one-dvd (unsigned_abs x), one_divides xs)
+
+content-append : (xs ys : List ℤ) (g h k : ℕ) → IsContent xs g → IsContent ys h → IsGcd h g k → IsContent (xs ++ ys) k
+content-append xs ys g h k x y d = (
+  divides_both k xs ys (divides_trans k g xs d.1 x.0) (divides_trans k h ys d.0 y.0),
+  (λ n e. let f = divides_apart n xs ys e in d.2 n (y.1 n f.1) (x.1 n f.0)),
+)
+
+all_more : (rows : List (List ℤ)) (i : ℕ) → i < length rows → all_of (take (i + 1) rows) ≡ all_of (take i rows) ++ get_or rows i []
+all_more rows i h =
+    ap all_of (take_more rows i [] h) ∙ flat_map-append (λ ws. ws) (take i rows) (get_or rows i [] ∷ []) ∙ ap (λ ws. all_of (take i rows) ++ ws) (append-nil (get_or rows i []))
+
+pub divisor_more : (den : ℤ) (rows : List (List ℤ)) (i g h k : ℕ) (ws : List ℤ) → i < length rows → ws ≡ get_or rows i [] → IsContent (den ∷ all_of (take i rows)) g → IsContent ws h → IsGcd h g k
+    → IsContent (den ∷ all_of (take (i + 1) rows)) k
+divisor_more den rows i g h k ws l e x y d =
+    subst (λ xs. IsContent (den ∷ xs) k) (sym (all_more rows i l))
+    (content-append (den ∷ all_of (take i rows)) (get_or rows i []) g h k x (subst (λ us. IsContent us h) e y) d)
+
+-- a divisor of some numbers that is 1 is that of all
+pub divisor_one : (den : ℤ) (rows : List (List ℤ)) (i : ℕ) → IsContent (den ∷ all_of (take i rows)) 1 → IsContent (den ∷ all_of rows) 1
+divisor_one den rows i h =
+    let e : all_of (take i rows) ++ all_of (drop i rows) ≡ all_of rows = sym (flat_map-append (λ ws. ws) (take i rows) (drop i rows)) ∙ ap all_of (take-append-drop i rows) in
+    subst (λ xs. IsContent (den ∷ xs) 1) e
+    (one_divides (den ∷ (all_of (take i rows) ++ all_of (drop i rows))), (λ d k. h.1 d (divides_apart d (den ∷ all_of (take i rows)) (all_of (drop i rows)) k).0))
+
+pub divisor_whole : (den : ℤ) (rows : List (List ℤ)) (i g : ℕ) → length rows ≤ i → IsContent (den ∷ all_of (take i rows)) g → IsContent (den ∷ all_of rows) g
+divisor_whole den rows i g l h = subst (λ rs. IsContent (den ∷ all_of rs) g) (take_all i rows l) h
+
+-- what divides all numbers divides those of each list
+pub divides_rows : (d : ℕ) (rows : List (List ℤ)) → DividesEach d (all_of rows) → Each rows (DividesEach d)
+divides_rows d [] h = tt
+divides_rows d (ws ∷ rows) h = let k = divides_apart d ws (all_of rows) h in (k.0, divides_rows d rows k.1)
+
+-- ---- quotients
+pub positive_is : (g : ℤ) → pos 0 <ℤ g → pos (unsigned_abs g) ≡ g
+positive_is (pos n) p = refl
+positive_is (negsuc n) p = absurd (omega (arith, ints, p))
+
+each_place : (P : List ℤ → Type 0) (rows : List (List ℤ)) (i : ℕ) → i < length rows → Each rows P → P (get_or rows i [])
+each_place P [] i l h = absurd (omega (arith, l))
+each_place P (ws ∷ rows) zero l h = h.0
+each_place P (ws ∷ rows) (suc i) l h = each_place P rows i (omega (arith, l)) h.1
+
+pub exact_at : (g : ℤ) (old now : List (List ℤ)) (i : ℕ) (ws : List ℤ) → i < length old → Each old (DividesEach (unsigned_abs g)) → ws ≡ get_or old i [] → DividesEach (unsigned_abs g) ws
+exact_at g old now i ws l h e = subst (DividesEach (unsigned_abs g)) (sym e) (each_place (DividesEach (unsigned_abs g)) old i l h)
+
+-- an exact quotient is the only one
+pub quotient_is : (g : ℤ) (old new : List ℤ) → pos 0 <ℤ g → DividesEach (unsigned_abs g) old → old ≡ scale g new → new ≡ divided g old
+quotient_is g old new p d e =
+    let s = subst (λ k. scale k (divided k old) ≡ old) (positive_is g p) (scale-divided (unsigned_abs g) old d) in
+    scale_cancel g new (divided g old) (λ z. omega (arith, ints, z, p)) (sym e ∙ sym s)
+
+pub all_divided : (g : ℤ) (old : List (List ℤ)) → pos 0 <ℤ g → Each old (DividesEach (unsigned_abs g)) → old ≡ map (scale g) (map (divided g) old)
+all_divided g [] p h = refl
+all_divided g (ws ∷ old) p h =
+    ap₂ (λ u us. u ∷ us) (sym (subst (λ k. scale k (divided k ws) ≡ ws) (positive_is g p) (scale-divided (unsigned_abs g) ws h.0))) (all_divided g old p h.1)

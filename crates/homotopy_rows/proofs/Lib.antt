@@ -1,0 +1,9 @@
+pub mod Summing
+pub mod Spots
+pub mod Collected
+pub mod Dividing
+pub mod Rows
+pub mod LeastScale
+pub mod ZeroAtPairs
+pub mod FlatLines
+pub mod Written
