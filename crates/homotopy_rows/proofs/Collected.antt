@@ -96,15 +96,19 @@ sums_unranked den v (s ∷ supports) (x ∷ cell) = ap₂ (λ ws rows. ws ∷ ro
 flat_to : (den : ℤ) (v : List ℤ) (s : List Point) (a b : ℕ) → IsFlatAt den v s a b → IsFlatAt den v (unranked s) a b
 flat_to den v s a b t = (
   t.0,
-  (t.1.0.0, subst (λ m. t.0 ≤ m) (sym (length-map s (with_rank 0))) t.1.0.1, t.1.0.2, t.1.0.3),
-  ap₂ (rise den v) (point_unranked s a) (point_unranked s t.0) ∙ t.1.1,
+  (
+    (t.1.0.0, subst (λ m. t.0 ≤ m) (sym (length-map s (with_rank 0))) t.1.0.1, t.1.0.2, t.1.0.3),
+    ap₂ (rise den v) (point_unranked s a) (point_unranked s t.0) ∙ t.1.1,
+  ),
 )
 
 flat_from : (den : ℤ) (v : List ℤ) (s : List Point) (a b : ℕ) → IsFlatAt den v (unranked s) a b → IsFlatAt den v s a b
 flat_from den v s a b t = (
   t.0,
-  (t.1.0.0, subst (λ m. t.0 ≤ m) (length-map s (with_rank 0)) t.1.0.1, t.1.0.2, t.1.0.3),
-  sym (ap₂ (rise den v) (point_unranked s a) (point_unranked s t.0)) ∙ t.1.1,
+  (
+    (t.1.0.0, subst (λ m. t.0 ≤ m) (length-map s (with_rank 0)) t.1.0.1, t.1.0.2, t.1.0.3),
+    sym (ap₂ (rise den v) (point_unranked s a) (point_unranked s t.0)) ∙ t.1.1,
+  ),
 )
 
 pub some_unranked : (den : ℤ) (v : List ℤ) (supports : List (List Point)) (cell : Cell) → SomePair supports cell (IsFlatAt den v) ↔ SomePair (map unranked supports) cell (IsFlatAt den v)

@@ -6,7 +6,6 @@ use Rattle.std.proofs.Math.Nat.{one-dvd}
 use Prim.Native.Nat.{◌∣◌}
 use Rattle.std.specs.Int.{IsGcd}
 use Rattle.std.proofs.lemmas.List.{take_more, append_assoc, take-append-drop}
-use Rattle.std.proofs.lemmas.List.Edits.{map_over_more}
 use Rattle.std.proofs.lemmas.Grind.{flat_map-append}
 use Rattle.std.proofs.lemmas.Nat.Gcd.{dvd_trans}
 use Rattle.int_vectors.specs.Contents.{content, DividesEach, IsContent, divided}
@@ -37,15 +36,17 @@ content-append xs ys g h k x y d = (
   (λ n e. let f = divides_apart n xs ys e in d.2 n (y.1 n f.1) (x.1 n f.0)),
 )
 
-all_more : (rows : List (List ℤ)) (i : ℕ) → i < length rows → all_of (take (i + 1) rows) ≡ all_of (take i rows) ++ get_or rows i []
-all_more rows i h =
-    ap all_of (take_more rows i [] h) ∙ flat_map-append (λ ws. ws) (take i rows) (get_or rows i [] ∷ []) ∙ ap (λ ws. all_of (take i rows) ++ ws) (append-nil (get_or rows i []))
+all_more : (rows : List (List ℤ)) (i : ℕ) (ws : List ℤ) → i < length rows → ws ≡ get_or rows i ws → all_of (take (i + 1) rows) ≡ all_of (take i rows) ++ ws
+all_more rows i ws h e =
+    ap all_of (take_more rows i ws h) ∙ flat_map-append (λ us. us) (take i rows) (get_or rows i ws ∷ []) ∙ ap (λ us. all_of (take i rows) ++ us) (append-nil (get_or rows i ws) ∙ sym e)
 
-pub divisor_more : (den : ℤ) (rows : List (List ℤ)) (i g h k : ℕ) (ws : List ℤ) → i < length rows → ws ≡ get_or rows i [] → IsContent (den ∷ all_of (take i rows)) g → IsContent ws h → IsGcd h g k
+pub same_divisor : (d e g h : ℤ) (ws : List ℤ) → d ≡ e → g ≡ h → IsContent (d ∷ ws) (unsigned_abs g) → IsContent (e ∷ ws) (unsigned_abs h)
+same_divisor d e g h ws i j c = subst (λ z. IsContent (z ∷ ws) (unsigned_abs h)) i (subst (λ z. IsContent (d ∷ ws) (unsigned_abs z)) j c)
+
+pub divisor_more : (den : ℤ) (rows : List (List ℤ)) (i g h k : ℕ) (ws : List ℤ) → i < length rows → ws ≡ get_or rows i ws → IsContent (den ∷ all_of (take i rows)) g → IsContent ws h → IsGcd h g k
     → IsContent (den ∷ all_of (take (i + 1) rows)) k
 divisor_more den rows i g h k ws l e x y d =
-    subst (λ xs. IsContent (den ∷ xs) k) (sym (all_more rows i l))
-    (content-append (den ∷ all_of (take i rows)) (get_or rows i []) g h k x (subst (λ us. IsContent us h) e y) d)
+    subst (λ xs. IsContent (den ∷ xs) k) (sym (all_more rows i ws l e)) (content-append (den ∷ all_of (take i rows)) ws g h k x y d)
 
 -- a divisor of some numbers that is 1 is that of all
 pub divisor_one : (den : ℤ) (rows : List (List ℤ)) (i : ℕ) → IsContent (den ∷ all_of (take i rows)) 1 → IsContent (den ∷ all_of rows) 1
@@ -62,18 +63,21 @@ pub divides_rows : (d : ℕ) (rows : List (List ℤ)) → DividesEach d (all_of 
 divides_rows d [] h = tt
 divides_rows d (ws ∷ rows) h = let k = divides_apart d ws (all_of rows) h in (k.0, divides_rows d rows k.1)
 
+pub above : (z : ℤ) → pos 0 <ℤ z → z ≢ pos 0
+above z p e = omega (arith, ints, p, e)
+
 -- ---- quotients
 pub positive_is : (g : ℤ) → pos 0 <ℤ g → pos (unsigned_abs g) ≡ g
 positive_is (pos n) p = refl
 positive_is (negsuc n) p = absurd (omega (arith, ints, p))
 
-each_place : (P : List ℤ → Type 0) (rows : List (List ℤ)) (i : ℕ) → i < length rows → Each rows P → P (get_or rows i [])
-each_place P [] i l h = absurd (omega (arith, l))
-each_place P (ws ∷ rows) zero l h = h.0
-each_place P (ws ∷ rows) (suc i) l h = each_place P rows i (omega (arith, l)) h.1
+each_read : (P : List ℤ → Type 0) (rows : List (List ℤ)) (i : ℕ) (ws : List ℤ) → i < length rows → Each rows P → ws ≡ get_or rows i ws → P ws
+each_read P [] i ws l h e = absurd (omega (arith, l))
+each_read P (us ∷ rows) zero ws l h e = subst P (sym e) h.0
+each_read P (us ∷ rows) (suc i) ws l h e = each_read P rows i ws (omega (arith, l)) h.1 e
 
-pub exact_at : (g : ℤ) (old now : List (List ℤ)) (i : ℕ) (ws : List ℤ) → i < length old → Each old (DividesEach (unsigned_abs g)) → ws ≡ get_or old i [] → DividesEach (unsigned_abs g) ws
-exact_at g old now i ws l h e = subst (DividesEach (unsigned_abs g)) (sym e) (each_place (DividesEach (unsigned_abs g)) old i l h)
+pub exact_at : (g : ℤ) (old : List (List ℤ)) (i : ℕ) (ws : List ℤ) → i < length old → Each old (DividesEach (unsigned_abs g)) → ws ≡ get_or old i ws → DividesEach (unsigned_abs g) ws
+exact_at g old i ws l h e = each_read (DividesEach (unsigned_abs g)) old i ws l h e
 
 -- an exact quotient is the only one
 pub quotient_is : (g : ℤ) (old new : List ℤ) → pos 0 <ℤ g → DividesEach (unsigned_abs g) old → old ≡ scale g new → new ≡ divided g old

@@ -69,7 +69,7 @@ scale_positive (suc g) k den p e = sign_cases k
     (λ z. absurd (let m = ap (λ x. pos (suc g) *ℤ x) z ∙ mul_zero_ℤ (pos (suc g)) in omega (arith, ints, m, e, p)))
     (λ h. h)
 
-divisor_positive : (g : ℕ) (k den : ℤ) → pos 0 <ℤ den → pos g *ℤ k ≡ den → 0 < g
+pub divisor_positive : (g : ℕ) (k den : ℤ) → pos 0 <ℤ den → pos g *ℤ k ≡ den → 0 < g
 divisor_positive zero k den p e = absurd (let m = *ℤ_comm (pos 0) k ∙ mul_zero_ℤ k in omega (arith, ints, m, e, p))
 divisor_positive (suc g) k den p e = omega arith
 

@@ -2,7 +2,7 @@ pub mod Summing
 pub mod Spots
 pub mod Collected
 pub mod Dividing
-pub mod Rows
+pub mod Beside
 pub mod LeastScale
 pub mod ZeroAtPairs
 pub mod FlatLines

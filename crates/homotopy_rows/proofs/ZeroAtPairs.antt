@@ -15,7 +15,7 @@ use Rattle.homotopy_rows.specs.Points.{IsLevelPair}
 use Rattle.homotopy_rows.specs.Powers.{Row, SideBySide, ArePowers, IsZeroAtPair, IsZeroAtPairs, sums_over, sums, sums_of}
 use Rattle.homotopy_rows.proofs.LeastScale.{divisor_positive}
 use Rattle.homotopy_rows.proofs.Summing.{rise_self}
-use native.Mathlib.Decide.{dec_eq}
+use native.Mathlib.Decide.{ℕ_discrete}
 
 -- of a support: the pair is level, and each further point rises
 abbrev pub IsRising : ℤ → List ℤ → List Point → ℕ → ℕ → Type 0
@@ -49,9 +49,9 @@ module _ (den : ℤ) (v : List ℤ) (g : ℤ) (p : pos 0 <ℤ g) (s : List Point
       (subst (λ z. pos 0 <ℤ z) (sym (power_is c l h)) (r.2 c (l, (let n = long in omega (arith, h, n)), na, nb)))
 
   where_zero : (c : ℕ) → 1 ≤ c → c ≤ length ws → at ws (c - 1) ≡ pos 0 → (c ≡ a) ⊎ (c ≡ b)
-  where_zero c l h z = elim (dec_eq c a) [
+  where_zero c l h z = elim (ℕ_discrete c a) [
     | yes i ↦ inl i
-    | no na ↦ elim (dec_eq c b) [
+    | no na ↦ elim (ℕ_discrete c b) [
       | yes i ↦ inr i
       | no nb ↦ absurd (let q = rising c l h na nb in omega (arith, ints, q, z))
     ]

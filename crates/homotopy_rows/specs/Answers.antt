@@ -4,21 +4,25 @@ use Rattle.cayley.specs.Problems.{Problem}
 use Rattle.cayley.specs.Files.{plain_problem}
 use Rattle.listing_text.specs.declared.listing.Listing.{Listing}
 use Rattle.listing_text.specs.declared.listing.ListedCell.{ListedCell}
-use Rattle.homotopy_rows.specs.declared.rows.PowerRow.{PowerRow}
 use Rattle.homotopy_rows.specs.declared.rows.RowFault.{RowFault}
 use Rattle.homotopy_rows.specs.declared.rows.RowFault.TheVariants.{Flat, OutOfMemory}
 use Rattle.homotopy_rows.specs.Flat.{IsFlat, FirstFlat}
-use Rattle.homotopy_rows.specs.Powers.{Row, SideBySide, ArePowers}
-use Rattle.homotopy_rows.specs.Stored.{row}
+use Rattle.homotopy_rows.specs.Powers.{Row, SideBySide, ArePowers, HasLeastScale, IsZeroAtPairs}
+use Rattle.homotopy_rows.specs.Writing.{homotopy_text}
 
 abbrev pub HadMemory : {A : Type 0} → Result A RowFault → Type 0
 HadMemory (Ok rows) = Unit {0}
 HadMemory (Err (Flat line)) = Unit {0}
 HadMemory (Err OutOfMemory) = ⊥
 
--- P holds of each line of the listing with its row
-abbrev pub EachRow : Listing → List PowerRow → (Problem → ListedCell → Row → Type 0) → Type 0
-EachRow listing rows P = SideBySide listing.cells.items rows (λ x r. P (plain_problem listing.file) x (row r))
+-- P holds of each line of the listing with its row, of which there are equally many
+abbrev pub EachRow : Listing → List Row → (Problem → ListedCell → Row → Type 0) → Type 0
+EachRow listing rows P = SideBySide listing.cells.items rows (P (plain_problem listing.file))
+
+-- the text of the powers of the listing's cells, in its order
+abbrev pub IsPowersText : Listing → List ℕ → Type 0
+IsPowersText listing text = (rows : List Row) × (text ≡ homotopy_text rows)
+    × EachRow listing rows ArePowers × EachRow listing rows HasLeastScale × EachRow listing rows (λ p x r. IsZeroAtPairs p r)
 
 -- a fault at a line: it has a further point of the sum 0
 abbrev pub IsLineFault : Type 0 → ℕ → RowFault → Type 0

@@ -1,6 +1,6 @@
 pub mod Powers
 pub mod Stored
-pub mod Flat
 pub mod Points
-pub mod Answers
+pub mod Flat
 pub mod Writing
+pub mod Answers

@@ -1,6 +1,5 @@
 // The powers of each line of a listing.
-ghost use Rattle.std.specs.Prelude.{◌≡◌, ◌↔◌, ℕ, Err, IfOk, MatchResult};
-ghost use Rattle.int_vectors.specs.Vectors.{Each};
+ghost use Rattle.std.specs.Prelude.{◌≡◌, ◌↔◌, ℕ, Err, IfOk, MatchResult, map};
 ghost use Rattle.cayley.specs.Files.{plain_problem};
 ghost use Rattle.cayley.specs.Problems.{version2};
 ghost use Rattle.cell_certificate.specs.Answers.{IsRight};
@@ -8,7 +7,7 @@ ghost use Rattle.cell_certificate.specs.Judgements.{HasSums, HasLevel};
 ghost use Rattle.cell_certificate.specs.Written.{IsListed, AreListed};
 ghost use Rattle.homotopy_rows.specs.Answers.{HadMemory, EachRow, IsLineFault, IsRowFault, IsGood};
 ghost use Rattle.homotopy_rows.specs.Flat.{IsFlat, FirstFlat};
-ghost use Rattle.homotopy_rows.specs.Powers.{ArePowers, HasLeastScale, IsZeroAtPairs};
+ghost use Rattle.homotopy_rows.specs.Powers.{SideBySide, ArePowers, HasLeastScale, IsZeroAtPairs};
 ghost use Rattle.homotopy_rows.specs.Stored.{row};
 ghost use Rattle.homotopy_rows.specs.declared.rows.RowFault.TheVariants as faults;
 
@@ -46,7 +45,7 @@ fn row_of(alloc: Global, file: &LiftFile, listed: &ListedCell) -> Result<PowerRo
 fn rows(alloc: Global, listing: &Listing) -> Result<Vec<PowerRow>, RowFault>
     requires listed { AreListed listing.now }
     requires right { IsRight listing.now }
-    ensures { MatchResult result (λ rows. EachRow listing.now rows.items IsGood) (IsRowFault (plain_problem listing.now.file) listing.now.cells.items) }
+    ensures { MatchResult result (λ rows. SideBySide listing.now.cells.items rows.items (λ x r. IsGood (plain_problem listing.now.file) x (row r))) (IsRowFault (plain_problem listing.now.file) listing.now.cells.items) }
 {
     let mut rows = Vec::new(alloc);
     for listed in &listing.cells {
@@ -75,9 +74,9 @@ fn rows(alloc: Global, listing: &Listing) -> Result<Vec<PowerRow>, RowFault>
 pub fn rows_of(alloc: Global, listing: &Listing) -> Result<Vec<PowerRow>, RowFault>
     requires listed { AreListed listing.now }
     requires right { IsRight listing.now }
-    ensures powers { IfOk result (λ rows. EachRow listing.now rows.items ArePowers) }
-    ensures least { IfOk result (λ rows. EachRow listing.now rows.items HasLeastScale) }
-    ensures zero { IfOk result (λ rows. EachRow listing.now rows.items (λ p x r. IsZeroAtPairs p r)) }
+    ensures powers { IfOk result (λ rows. EachRow listing.now (map row rows.items) ArePowers) }
+    ensures least { IfOk result (λ rows. EachRow listing.now (map row rows.items) HasLeastScale) }
+    ensures zero { IfOk result (λ rows. EachRow listing.now (map row rows.items) (λ p x r. IsZeroAtPairs p r)) }
     ensures flat { HadMemory result → (number : ℕ) → (result ≡ Err (faults.Flat number)) ↔ FirstFlat (plain_problem listing.now.file) listing.now.cells.items number }
     // Only where heights have infinitesimals.
     ensures perturbed { (number : ℕ) → result ≡ Err (faults.Flat number) → listing.now.file.version ≡ version2 }

@@ -1,5 +1,5 @@
 -- lines and their rows side by side
-use Rattle.std.proofs.Common.{◌≡◌, ℕ, zero, suc, ◌+◌, ◌<◌, ◌≤◌, List, [], ◌∷◌, ◌++◌, length, drop, get_or, drop-cons, add-one, drop_of_length-le, arith, refl, sym, ap, subst, ◌∙◌, append-nil, Option, Some, None}
+use Rattle.std.proofs.Common.{◌≡◌, ℕ, zero, suc, ◌+◌, ◌<◌, ◌≤◌, List, [], ◌∷◌, ◌++◌, length, map, drop, get_or, drop-cons, add-one, drop_of_length-le, arith, refl, sym, ap, subst, ◌∙◌, append-nil, Option, Some, None}
 use Rattle.std.proofs.lemmas.List.{append_assoc}
 use Rattle.int_vectors.specs.Vectors.{Each}
 use Rattle.homotopy_rows.specs.Powers.{SideBySide}
@@ -18,9 +18,7 @@ beside_both E P Q (x ∷ xs) [] f e h = h
 beside_both E P Q (x ∷ xs) (y ∷ ys) f e h = (f x y e.0 h.0, beside_both E P Q xs ys f e.1 h.1)
 
 pub left_is : {A : Type 0} (xs : List A) (k : ℕ) (x : A) → k < length xs → x ≡ get_or xs k x → drop k xs ≡ x ∷ drop (k + 1) xs
-left_is [] k x h e = absurd (omega (arith, h))
-left_is (y ∷ xs) zero x h e = ap (λ z. z ∷ xs) (sym e)
-left_is (y ∷ xs) (suc k) x h e = left_is xs k x (omega (arith, h)) e
+left_is xs k x h e = rw (add-one, drop-cons xs k x) (ap (λ z. z ∷ drop (suc k) xs) (sym e))
 
 -- what is left of the lines, with any rows, completes the rows that were made
 pub made_more : {A B : Type 0} (P : A → B → Type 0) (xs : List A) (made : List B) (k : ℕ) (x : A) (y : B) → k < length xs → x ≡ get_or xs k x
@@ -42,3 +40,10 @@ each_item P (y ∷ xs) (suc k) x h l e = each_item P xs k x h.1 (omega (arith, l
 pub each_with : {A : Type 0} (P Q R : A → Type 0) (xs : List A) → ((x : A) → P x → Q x → R x) → Each xs P → Each xs Q → Each xs R
 each_with P Q R [] f p q = tt
 each_with P Q R (x ∷ xs) f p q = (f x p.0 q.0, each_with P Q R xs f p.1 q.1)
+
+-- of rows that are seen through f
+pub beside_seen : {A B C : Type 0} (f : B → C) (P : A → C → Type 0) (xs : List A) (ys : List B) → SideBySide xs ys (λ x y. P x (f y)) → SideBySide xs (map f ys) P
+beside_seen f P [] [] h = tt
+beside_seen f P [] (y ∷ ys) h = h
+beside_seen f P (x ∷ xs) [] h = h
+beside_seen f P (x ∷ xs) (y ∷ ys) h = (h.0, beside_seen f P xs ys h.1)
