@@ -1,8 +1,8 @@
 -- lines that passed: none of their further points is below, and where none is flat each rises
-use Rattle.std.proofs.Common.{◌≡◌, ◌≢◌, ◌⊎◌, ◌↔◌, ℕ, zero, suc, ◌<◌, ◌≤◌, ◌<ℤ◌, List, [], ◌∷◌, length, inl, inr, arith, refl, sym, ap, subst, ◌∙◌, Option, Some, None, Result, Ok, Err}
+use Rattle.std.proofs.Common.{◌≡◌, ◌≢◌, ◌⊎◌, ◌↔◌, ℕ, zero, suc, ◌<◌, ◌≤◌, ◌<ℤ◌, List, [], ◌∷◌, length, map, inl, inr, arith, refl, sym, ap, subst, ◌∙◌, Option, Some, None, Result, Ok, Err}
 use Rattle.std.proofs.lemmas.Int.{ints}
 use Rattle.std.proofs.Math.IntN.{ℤ, pos}
-use Rattle.std.specs.Prelude.{MatchResult}
+use Rattle.std.specs.Prelude.{MatchResult, IfOk}
 use Rattle.int_vectors.specs.Vectors.{Each}
 use Rattle.cayley.specs.Cells.{Cell, EachPair, IsOf, IsFurther, IsIndependent}
 use Rattle.cayley.specs.Files.{File, plain_problem}
@@ -21,10 +21,13 @@ use Rattle.cell_certificate.proofs.Levels.{level_from}
 use Rattle.cell_certificate.proofs.PlainPoints.{valid_of}
 use Rattle.homotopy_rows.specs.declared.rows.RowFault.{RowFault}
 use Rattle.homotopy_rows.specs.declared.rows.RowFault.TheVariants.{Flat, OutOfMemory}
-use Rattle.homotopy_rows.specs.Answers.{HadMemory, IsGood, IsRowFault}
+use Rattle.homotopy_rows.specs.declared.rows.PowerRow.{PowerRow}
+use Rattle.homotopy_rows.specs.Answers.{HadMemory, EachRow, IsGood, IsLineFault, IsRowFault}
+use Rattle.homotopy_rows.specs.Stored.{row}
 use Rattle.homotopy_rows.specs.Flat.{SomePair, IsFlatAt, IsFlat, FirstFlat}
 use Rattle.homotopy_rows.specs.Points.{IsLevelPair}
-use Rattle.homotopy_rows.specs.Powers.{SideBySide}
+use Rattle.homotopy_rows.specs.Powers.{Row, SideBySide}
+use Rattle.homotopy_rows.proofs.Beside.{beside_map, beside_both, beside_seen}
 use Rattle.homotopy_rows.proofs.ZeroAtPairs.{IsRising}
 
 -- ---- lines that passed
@@ -34,6 +37,11 @@ IsPassed p x = IsLevelLine p x × HasLeast p x
 pub all_passed : (p : Problem) (before : Option Cell) (lines : List ListedCell) → Each lines (IsListed p) → AllPass p before lines → Each lines (IsPassed p)
 all_passed p before [] l a = tt
 all_passed p before (x ∷ lines) l a = (((l.0, a.0.0.2, a.0.1, a.0.2), a.0.4), all_passed p (Some x.cell) lines l.1 a.1)
+
+-- a fault at a support is one of the line
+pub line_fault : (part whole : Type 0) (line : ℕ) (e : RowFault) → (part → whole) → IsLineFault part line e → IsLineFault whole line e
+line_fault part whole line (Flat number) f h = (f h.0, h.1)
+line_fault part whole line OutOfMemory f h = tt
 
 -- ---- supports with their pairs
 free_pairs : (den : ℤ) (v : List ℤ) (supports : List (List Point)) (cell : Cell) (P : List Point → ℕ → ℕ → Type 0) → EachPair supports cell P → ¬ (SomePair supports cell (IsFlatAt den v))
@@ -80,18 +88,18 @@ no_first file valid v [] e number f = f
 no_first file valid v (x ∷ lines) e number (inl f) = plain_line file valid x e.0 v f.0
 no_first file valid v (x ∷ lines) e number (inr f) = no_first file valid v lines e.1 number f.1
 
+abbrev tells : Version → Type 0
+tells version1 = Unit {0}
+tells version2 = ⊥
+
+apart : version1 ≡ version2 → ⊥
+apart q = subst tells q tt
+
 pub perturbed_alone : (file : File) → IsValidFile file → (lines : List ListedCell) → Each lines (IsPassed (plain_problem file)) → (number : ℕ) → FirstFlat (plain_problem file) lines number → file.version ≡ version2
 perturbed_alone file valid lines e number f = by_version file.version refl
   where
     by_version : (w : Version) → file.version ≡ w → file.version ≡ version2
     by_version version1 i = absurd (no_first file valid (λ q. apart (sym i ∙ q)) lines e number f)
-      where
-        abbrev tells : Version → Type 0
-        tells version1 = Unit {0}
-        tells version2 = ⊥
-
-        apart : version1 ≡ version2 → ⊥
-        apart q = subst tells q tt
     by_version version2 i = i
 
 one_first : (p : Problem) (lines : List ListedCell) (m n : ℕ) → FirstFlat p lines m → FirstFlat p lines n → m ≡ n
@@ -109,27 +117,62 @@ no_flat p Q (x ∷ lines) [] n h number f = absurd h
 no_flat p Q (x ∷ lines) (y ∷ rows) n h number (inl f) = n x y h.0 f.0
 no_flat p Q (x ∷ lines) (y ∷ rows) n h number (inr f) = no_flat p Q lines rows n h.1 number f.1
 
--- what an answer says, as exactly where
-abbrev pub IsLines : {A B : Type 0} → (A → List B) → Problem → List ListedCell → (ListedCell → B → Type 0) → Result A RowFault → Type 0
-IsLines items p lines Q r = MatchResult r (λ rows. SideBySide lines (items rows) Q) (IsRowFault p lines)
+-- ---- answers as exactly where
+abbrev is_ok : {A : Type 0} → Result A RowFault → Type 0
+is_ok (Ok a) = Unit {0}
+is_ok (Err e) = ⊥
 
-module _ {A B : Type 0} (items : A → List B) (p : Problem) (lines : List ListedCell) (Q : ListedCell → B → Type 0) (n : (x : ListedCell) (y : B) → Q x y → ¬ (IsFlat p x)) where
-  pub first_flat : (r : Result A RowFault) → IsLines items p lines Q r → HadMemory r → (number : ℕ) → (r ≡ Err (Flat number)) ↔ FirstFlat p lines number
-  first_flat (Ok rows) h m number = ((λ e. absurd (not_ok rows number e)), (λ f. absurd (no_flat p Q lines (items rows) n h number f)))
-    where
-      abbrev is_ok : Result A RowFault → Type 0
-      is_ok (Ok a) = Unit {0}
-      is_ok (Err e) = ⊥
+not_ok : {A : Type 0} (rows : A) (number : ℕ) → Ok rows ≡ Err (Flat number) → ⊥
+not_ok rows number e = subst is_ok e tt
 
-      not_ok : (rows : A) (number : ℕ) → Ok rows ≡ Err (Flat number) → ⊥
-      not_ok rows number e = subst is_ok e tt
-  first_flat (Err (Flat line)) h m number = (
+abbrev is_flat : {A : Type 0} → Result A RowFault → Type 0
+is_flat (Ok a) = ⊥
+is_flat (Err (Flat k)) = Unit {0}
+is_flat (Err OutOfMemory) = ⊥
+
+not_flat : {A : Type 0} (number : ℕ) → Err {A = A} OutOfMemory ≡ Err (Flat number) → ⊥
+not_flat number i = subst is_flat (sym i) tt
+
+abbrev number_of : {A : Type 0} → Result A RowFault → ℕ
+number_of (Ok a) = 0
+number_of (Err (Flat k)) = k
+number_of (Err OutOfMemory) = 0
+
+module _ (listing : Listing) {A : Type 0} where
+  abbrev p : Problem
+  p = plain_problem listing.file
+
+  abbrev lines : List ListedCell
+  lines = listing.cells.items
+
+  abbrev pub Said : (A → List PowerRow) → Result A RowFault → Type 0
+  Said items r = MatchResult r (λ rows. SideBySide lines (items rows) (λ x y. IsGood p x (row y))) (IsRowFault p lines)
+
+  pub first_flat : (r : Result A RowFault) (items : A → List PowerRow) → Said items r → HadMemory r → (number : ℕ) → (r ≡ Err (Flat number)) ↔ FirstFlat p lines number
+  first_flat (Ok rows) items h m number = (
+    (λ e. absurd (not_ok rows number e)),
+    (λ f. absurd (no_flat p (λ x y. IsGood p x (row y)) lines (items rows) (λ x y g. g.1) h number f)),
+  )
+  first_flat (Err (Flat line)) items h m number = (
     (λ e. subst (λ k. FirstFlat p lines k) (ap number_of e) h),
     (λ f. ap (λ k. Err (Flat k)) (one_first p lines line number h f)),
   )
-    where
-      number_of : Result A RowFault → ℕ
-      number_of (Ok a) = 0
-      number_of (Err (Flat k)) = k
-      number_of (Err OutOfMemory) = 0
-  first_flat (Err OutOfMemory) h m number = absurd m
+  first_flat (Err OutOfMemory) items h m number = absurd m
+
+  -- a property of good rows
+  pub each_row : (P : Problem → ListedCell → Row → Type 0) → ((x : ListedCell) (y : Row) → IsGood p x y → P p x y) → (r : Result A RowFault) (items : A → List PowerRow) → Said items r
+      → IfOk r (λ rows. EachRow listing (map row (items rows)) P)
+  each_row P f (Ok rows) items h = beside_seen row (P p) lines (items rows) (beside_map (λ x y. IsGood p x (row y)) (λ x y. P p x (row y)) lines (items rows) (λ x y g. f x (row y) g) h)
+  each_row P f (Err e) items h = tt
+
+  -- the same of lines that passed
+  pub each_good : (P : Problem → ListedCell → Row → Type 0) → Each lines (IsPassed p) → ((x : ListedCell) (y : Row) → IsPassed p x → IsGood p x y → P p x y) → (r : Result A RowFault) (items : A → List PowerRow)
+      → Said items r → IfOk r (λ rows. EachRow listing (map row (items rows)) P)
+  each_good P e f (Ok rows) items h =
+      beside_seen row (P p) lines (items rows) (beside_both (IsPassed p) (λ x y. IsGood p x (row y)) (λ x y. P p x (row y)) lines (items rows) (λ x y q g. f x (row y) q g) e h)
+  each_good P e f (Err b) items h = tt
+
+  pub flat_perturbed : (r : Result A RowFault) (items : A → List PowerRow) → IsValidFile listing.file → Each lines (IsPassed p) → Said items r → (number : ℕ) → r ≡ Err (Flat number) → listing.file.version ≡ version2
+  flat_perturbed (Ok rows) items valid e h number i = absurd (not_ok rows number i)
+  flat_perturbed (Err (Flat line)) items valid e h number i = perturbed_alone listing.file valid lines e line h
+  flat_perturbed (Err OutOfMemory) items valid e h number i = absurd (not_flat number i)

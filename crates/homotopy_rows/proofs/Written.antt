@@ -21,7 +21,7 @@ powers_written o i j k ws a b c =
     ∙ ap (λ t. o ++ t) (sym (append-nil (join_with_byte 32 (power_words ws) ++ 10 ∷ []) ∙ ap (λ t. t ++ 10 ∷ []) (led (codes "powers") ws) ∙ append_assoc (codes "powers") s (10 ∷ [])))
 
 -- the line of a cell and its scale
-spaced : List Text → List ℕ
+abbrev spaced : List Text → List ℕ
 spaced ws = flat_map (λ u. 32 ∷ u) ws
 
 behind : (w : Text) (ws : List Text) → join_with_byte 32 (w ∷ ws) ≡ w ++ spaced ws

@@ -49,13 +49,14 @@ fn rows(alloc: Global, listing: &Listing) -> Result<Vec<PowerRow>, RowFault>
 {
     let mut rows = Vec::new(alloc);
     for listed in &listing.cells {
+        if rows.reserve(1).is_err() {
+            return Err(RowFault::OutOfMemory);
+        }
         let row = match row_of(alloc, &listing.file, listed) {
             Ok(row) => row,
             Err(fault) => return Err(fault),
         };
-        if rows.push(row).is_err() {
-            return Err(RowFault::OutOfMemory);
-        }
+        rows.push_reserved(row);
     }
     Ok(rows)
 }

@@ -96,12 +96,13 @@ fn support_sums(
         return Err(RowFault::OutOfMemory);
     }
     for place in 0..points.len() {
+        if sums.reserve(1).is_err() {
+            return Err(RowFault::OutOfMemory);
+        }
         let Some(sum) = sum_at(points, pair, place, &listed.normal) else {
             return Err(RowFault::Flat { line: listed.line });
         };
-        if sums.push(sum).is_err() {
-            return Err(RowFault::OutOfMemory);
-        }
+        sums.push_reserved(sum);
     }
     Ok(IntVec::from_vec(sums))
 }
@@ -122,13 +123,14 @@ pub(crate) fn all_sums(
     let mut sums = Vec::new(alloc);
     let pairs = listed.cell.pairs();
     for k in 0..file.dim() {
+        if sums.reserve(1).is_err() {
+            return Err(RowFault::OutOfMemory);
+        }
         let own = match support_sums(alloc, file.support(k as u32 + 1), pairs[k], listed) {
             Ok(own) => own,
             Err(fault) => return Err(fault),
         };
-        if sums.push(own).is_err() {
-            return Err(RowFault::OutOfMemory);
-        }
+        sums.push_reserved(own);
     }
     Ok(sums)
 }
