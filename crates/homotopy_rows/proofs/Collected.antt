@@ -1,15 +1,15 @@
 -- sums that are collected point by point and support by support
-use Rattle.std.proofs.Common.{◌≡◌, ◌⊎◌, ◌↔◌, ℕ, zero, suc, ◌+◌, ◌-◌, ◌<◌, ◌≤◌, List, [], ◌∷◌, ◌++◌, length, map, take, drop, get_or, inl, inr, drop-cons, add-one, drop_of_length-le, take_all, arith, refl, sym, ap, ap₂, subst, ◌∙◌, append-nil}
+use Rattle.std.proofs.Common.{◌≡◌, ◌⊎◌, ◌↔◌, ℕ, ◌+◌, ◌-◌, ◌<◌, ◌≤◌, List, [], ◌∷◌, ◌++◌, length, map, take, drop, get_or, inl, inr, drop-cons, add-one, drop_of_length-le, take_all, arith, refl, sym, ap, ap₂, subst, ◌∙◌, append-nil}
 use Rattle.std.proofs.Math.IntN.{ℤ, pos}
 use Rattle.std.proofs.lemmas.List.{length-map, take_more, append_assoc, get_or-map}
 use Rattle.wide_int.specs.Whole.{FitsWhole}
 use Rattle.int_vectors.specs.Fits.{AllFit}
-use Rattle.cayley.specs.Cells.{Cell, EachPair, IsFurther}
-use Rattle.cayley.specs.Problems.{Point, Problem, origin, point_at, with_rank, unperturbed}
+use Rattle.cayley.specs.Cells.{Cell}
+use Rattle.cayley.specs.Problems.{Point, origin, point_at, with_rank}
 use Rattle.cayley.specs.Resting.{rise}
 use Rattle.cayley.proofs.OneCell.Unperturbed.{unranked, point_unranked}
 use Rattle.homotopy_rows.specs.Flat.{SomePair, IsFlatAt}
-use Rattle.homotopy_rows.specs.Points.{IsTieAt, IsSumAt}
+use Rattle.homotopy_rows.specs.Points.{IsTieAt}
 use Rattle.homotopy_rows.specs.Powers.{sums_over, sums}
 use native.Mathlib.Decide.{dec_le}
 

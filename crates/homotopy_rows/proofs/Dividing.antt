@@ -1,14 +1,14 @@
 -- common divisors of lists of numbers, and their quotients
-use Rattle.std.proofs.Common.{◌≡◌, ◌≢◌, ℕ, zero, suc, ◌+◌, ◌<◌, ◌≤◌, ◌<ℤ◌, ◌≤ℤ◌, List, [], ◌∷◌, ◌++◌, length, map, flat_map, take, drop, get_or, set, unsigned_abs, arith, refl, sym, ap, ap₂, subst, ◌∙◌, append-nil, take_all}
+use Rattle.std.proofs.Common.{◌≡◌, ◌≢◌, ℕ, zero, suc, ◌+◌, ◌<◌, ◌≤◌, ◌<ℤ◌, List, [], ◌∷◌, ◌++◌, length, map, take, drop, get_or, unsigned_abs, arith, refl, sym, ap, ap₂, subst, ◌∙◌, append-nil, take_all}
 use Rattle.std.proofs.lemmas.Int.{ints}
-use Rattle.std.proofs.Math.IntN.{ℤ, pos, negsuc, ◌*ℤ◌}
+use Rattle.std.proofs.Math.IntN.{ℤ, pos, negsuc}
 use Rattle.std.proofs.Math.Nat.{one-dvd}
 use Prim.Native.Nat.{◌∣◌}
 use Rattle.std.specs.Int.{IsGcd}
-use Rattle.std.proofs.lemmas.List.{take_more, append_assoc, take-append-drop}
+use Rattle.std.proofs.lemmas.List.{take_more, take-append-drop}
 use Rattle.std.proofs.lemmas.Grind.{flat_map-append}
 use Rattle.std.proofs.lemmas.Nat.Gcd.{dvd_trans}
-use Rattle.int_vectors.specs.Contents.{content, DividesEach, IsContent, divided}
+use Rattle.int_vectors.specs.Contents.{DividesEach, IsContent, divided}
 use Rattle.int_vectors.specs.Vectors.{Each, scale}
 use Rattle.int_vectors.proofs.EntryDivisors.{scale_cancel, scale-divided}
 use Rattle.homotopy_rows.specs.Powers.{all_of}

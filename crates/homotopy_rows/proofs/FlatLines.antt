@@ -1,18 +1,16 @@
 -- lines that passed: none of their further points is below, and where none is flat each rises
-use Rattle.std.proofs.Common.{◌≡◌, ◌≢◌, ◌⊎◌, ◌↔◌, ℕ, zero, suc, ◌<◌, ◌≤◌, ◌<ℤ◌, List, [], ◌∷◌, length, map, inl, inr, arith, refl, sym, ap, subst, ◌∙◌, Option, Some, None, Result, Ok, Err}
+use Rattle.std.proofs.Common.{◌≡◌, ◌≢◌, ◌↔◌, ℕ, ◌<◌, ◌≤◌, List, [], ◌∷◌, length, map, inl, inr, arith, refl, sym, ap, subst, ◌∙◌, Option, Some, Result, Ok, Err}
 use Rattle.std.proofs.lemmas.Int.{ints}
-use Rattle.std.proofs.Math.IntN.{ℤ, pos}
+use Rattle.std.proofs.Math.IntN.{ℤ}
 use Rattle.std.specs.Prelude.{MatchResult, IfOk}
 use Rattle.int_vectors.specs.Vectors.{Each}
-use Rattle.cayley.specs.Cells.{Cell, EachPair, IsOf, IsFurther, IsIndependent}
+use Rattle.cayley.specs.Cells.{Cell, EachPair}
 use Rattle.cayley.specs.Files.{File, plain_problem}
-use Rattle.cayley.specs.Problems.{Version, version1, version2, Point, Problem, point_at}
-use Rattle.cayley.specs.Resting.{rise}
+use Rattle.cayley.specs.Problems.{Version, version1, version2, Point, Problem}
 use Rattle.cayley.specs.Valid.{IsValidFile, IsValidProblem}
 use Rattle.listing_text.specs.declared.listing.Listing.{Listing}
 use Rattle.listing_text.specs.declared.listing.ListedCell.{ListedCell}
-use Rattle.cell_certificate.specs.declared.judgement.Judgement.TheVariants.{Passes}
-use Rattle.cell_certificate.specs.Judgements.{IsJudged, AllPass, HasSums, HasLevel, HasLeast}
+use Rattle.cell_certificate.specs.Judgements.{AllPass, HasLeast}
 use Rattle.cell_certificate.specs.Sums.{RisesAt, UntiedAt}
 use Rattle.cell_certificate.specs.Ties.{IsLevelLine}
 use Rattle.cell_certificate.specs.Written.{IsListed}
@@ -102,7 +100,7 @@ perturbed_alone file valid lines e number f = by_version file.version refl
     by_version version1 i = absurd (no_first file valid (λ q. apart (sym i ∙ q)) lines e number f)
     by_version version2 i = i
 
-one_first : (p : Problem) (lines : List ListedCell) (m n : ℕ) → FirstFlat p lines m → FirstFlat p lines n → m ≡ n
+pub one_first : (p : Problem) (lines : List ListedCell) (m n : ℕ) → FirstFlat p lines m → FirstFlat p lines n → m ≡ n
 one_first p [] m n f g = absurd f
 one_first p (x ∷ lines) m n (inl f) (inl g) = sym f.1 ∙ g.1
 one_first p (x ∷ lines) m n (inl f) (inr g) = absurd (g.0 f.0)
@@ -130,49 +128,40 @@ is_flat (Ok a) = ⊥
 is_flat (Err (Flat k)) = Unit {0}
 is_flat (Err OutOfMemory) = ⊥
 
-not_flat : {A : Type 0} (number : ℕ) → Err {A = A} OutOfMemory ≡ Err (Flat number) → ⊥
-not_flat number i = subst is_flat (sym i) tt
-
 abbrev number_of : {A : Type 0} → Result A RowFault → ℕ
 number_of (Ok a) = 0
 number_of (Err (Flat k)) = k
 number_of (Err OutOfMemory) = 0
 
 module _ (listing : Listing) {A : Type 0} where
-  abbrev p : Problem
-  p = plain_problem listing.file
-
-  abbrev lines : List ListedCell
-  lines = listing.cells.items
-
   abbrev pub Said : (A → List PowerRow) → Result A RowFault → Type 0
-  Said items r = MatchResult r (λ rows. SideBySide lines (items rows) (λ x y. IsGood p x (row y))) (IsRowFault p lines)
+  Said items r = MatchResult r (λ rows. SideBySide listing.cells.items (items rows) (λ x y. IsGood (plain_problem listing.file) x (row y))) (IsRowFault (plain_problem listing.file) listing.cells.items)
 
-  pub first_flat : (r : Result A RowFault) (items : A → List PowerRow) → Said items r → HadMemory r → (number : ℕ) → (r ≡ Err (Flat number)) ↔ FirstFlat p lines number
+  pub first_flat : (r : Result A RowFault) (items : A → List PowerRow) → Said items r → HadMemory r → (number : ℕ) → (r ≡ Err (Flat number)) ↔ FirstFlat (plain_problem listing.file) listing.cells.items number
   first_flat (Ok rows) items h m number = (
     (λ e. absurd (not_ok rows number e)),
-    (λ f. absurd (no_flat p (λ x y. IsGood p x (row y)) lines (items rows) (λ x y g. g.1) h number f)),
+    (λ f. absurd (no_flat (plain_problem listing.file) (λ x y. IsGood (plain_problem listing.file) x (row y)) listing.cells.items (items rows) (λ x y g. g.1) h number f)),
   )
   first_flat (Err (Flat line)) items h m number = (
-    (λ e. subst (λ k. FirstFlat p lines k) (ap number_of e) h),
-    (λ f. ap (λ k. Err (Flat k)) (one_first p lines line number h f)),
+    (λ e. subst (λ k. FirstFlat (plain_problem listing.file) listing.cells.items k) (ap number_of e) h),
+    (λ f. ap (λ k. Err (Flat k)) (one_first (plain_problem listing.file) listing.cells.items line number h f)),
   )
   first_flat (Err OutOfMemory) items h m number = absurd m
 
   -- a property of good rows
-  pub each_row : (P : Problem → ListedCell → Row → Type 0) → ((x : ListedCell) (y : Row) → IsGood p x y → P p x y) → (r : Result A RowFault) (items : A → List PowerRow) → Said items r
+  pub each_row : (P : Problem → ListedCell → Row → Type 0) → ((x : ListedCell) (y : Row) → IsGood (plain_problem listing.file) x y → P (plain_problem listing.file) x y) → (r : Result A RowFault) (items : A → List PowerRow) → Said items r
       → IfOk r (λ rows. EachRow listing (map row (items rows)) P)
-  each_row P f (Ok rows) items h = beside_seen row (P p) lines (items rows) (beside_map (λ x y. IsGood p x (row y)) (λ x y. P p x (row y)) lines (items rows) (λ x y g. f x (row y) g) h)
+  each_row P f (Ok rows) items h = beside_seen row (P (plain_problem listing.file)) listing.cells.items (items rows) (beside_map (λ x y. IsGood (plain_problem listing.file) x (row y)) (λ x y. P (plain_problem listing.file) x (row y)) listing.cells.items (items rows) (λ x y g. f x (row y) g) h)
   each_row P f (Err e) items h = tt
 
   -- the same of lines that passed
-  pub each_good : (P : Problem → ListedCell → Row → Type 0) → Each lines (IsPassed p) → ((x : ListedCell) (y : Row) → IsPassed p x → IsGood p x y → P p x y) → (r : Result A RowFault) (items : A → List PowerRow)
+  pub each_good : (P : Problem → ListedCell → Row → Type 0) → Each listing.cells.items (IsPassed (plain_problem listing.file)) → ((x : ListedCell) (y : Row) → IsPassed (plain_problem listing.file) x → IsGood (plain_problem listing.file) x y → P (plain_problem listing.file) x y) → (r : Result A RowFault) (items : A → List PowerRow)
       → Said items r → IfOk r (λ rows. EachRow listing (map row (items rows)) P)
   each_good P e f (Ok rows) items h =
-      beside_seen row (P p) lines (items rows) (beside_both (IsPassed p) (λ x y. IsGood p x (row y)) (λ x y. P p x (row y)) lines (items rows) (λ x y q g. f x (row y) q g) e h)
+      beside_seen row (P (plain_problem listing.file)) listing.cells.items (items rows) (beside_both (IsPassed (plain_problem listing.file)) (λ x y. IsGood (plain_problem listing.file) x (row y)) (λ x y. P (plain_problem listing.file) x (row y)) listing.cells.items (items rows) (λ x y q g. f x (row y) q g) e h)
   each_good P e f (Err b) items h = tt
 
-  pub flat_perturbed : (r : Result A RowFault) (items : A → List PowerRow) → IsValidFile listing.file → Each lines (IsPassed p) → Said items r → (number : ℕ) → r ≡ Err (Flat number) → listing.file.version ≡ version2
+  pub flat_perturbed : (r : Result A RowFault) (items : A → List PowerRow) → IsValidFile listing.file → Each listing.cells.items (IsPassed (plain_problem listing.file)) → Said items r → (number : ℕ) → r ≡ Err (Flat number) → listing.file.version ≡ version2
   flat_perturbed (Ok rows) items valid e h number i = absurd (not_ok rows number i)
-  flat_perturbed (Err (Flat line)) items valid e h number i = perturbed_alone listing.file valid lines e line h
-  flat_perturbed (Err OutOfMemory) items valid e h number i = absurd (not_flat number i)
+  flat_perturbed (Err (Flat line)) items valid e h number i = perturbed_alone listing.file valid listing.cells.items e line h
+  flat_perturbed (Err OutOfMemory) items valid e h number i = absurd (subst (λ (r : Result A RowFault). is_flat r) (sym i) tt)

@@ -1,5 +1,5 @@
 -- the denominator over the greatest common divisor is the least scale
-use Rattle.std.proofs.Common.{◌≡◌, ◌≢◌, ℕ, zero, suc, ◌+◌, ◌*◌, ◌<◌, ◌≤◌, ◌<ℤ◌, ◌≤ℤ◌, List, [], ◌∷◌, ◌++◌, length, map, unsigned_abs, arith, refl, sym, ap, ap₂, subst, ◌∙◌}
+use Rattle.std.proofs.Common.{◌≡◌, ℕ, zero, suc, ◌*◌, ◌<◌, ◌≤◌, ◌<ℤ◌, ◌≤ℤ◌, List, [], ◌∷◌, ◌++◌, map, unsigned_abs, arith, refl, sym, ap, ap₂, subst, ◌∙◌}
 use Rattle.std.proofs.lemmas.Int.{ints, unsigned_abs-mul}
 use Rattle.std.proofs.Math.IntN.{ℤ, pos, negsuc, ◌*ℤ◌, *ℤ_comm}
 use Rattle.std.proofs.Math.Nat.{dvd-mul_left, dvd-mul_right, dvd_of_mul-dvd-mul_left}
@@ -8,12 +8,13 @@ use Rattle.std.proofs.lemmas.Nat.Gcd.{dvd-zero, le_of_dvd}
 use Rattle.wide_int.proofs.CommonDivisors.{gcd_multiple}
 use Rattle.wide_int.proofs.Order.{sign_cases, mul_pos_neg_ℤ}
 use Rattle.wide_int.proofs.Ring.{as_D, Ds, same_D, mul_zero_ℤ}
-use Rattle.int_vectors.specs.Contents.{content, DividesEach, IsContent}
+use Rattle.int_vectors.specs.Contents.{content, IsContent}
 use Rattle.int_vectors.specs.Vectors.{Each, scale}
 use Rattle.int_vectors.proofs.EntryDivisors.{same_content}
 use Rattle.cayley.specs.Problems.{Problem}
 use Rattle.listing_text.specs.declared.listing.ListedCell.{ListedCell}
-use Rattle.homotopy_rows.specs.Powers.{Row, ArePowers, HasLeastScale, IsLeastScale, MakesWhole, all_of, sums_of}
+use Rattle.homotopy_rows.proofs.Dividing.{positive_is}
+use Rattle.homotopy_rows.specs.Powers.{Row, ArePowers, HasLeastScale, MakesWhole, all_of, sums_of}
 
 -- ---- multiples of all numbers
 multiple_divides : (m d : ℕ) (xs : List ℤ) → 0 < m → Each xs (λ x. d ∣ m * unsigned_abs x) → d ∣ m * content xs
@@ -104,3 +105,14 @@ least_scale p x r h a =
       };
       powers = all_turned x.normal.den (pos g) r.scale r.powers a.whole ∙ ap (map (scale r.scale)) a.each;
     }
+
+-- ---- powers by their divisor
+pub powers_made : (p : Problem) (x : ListedCell) (r : Row) (g : ℤ) (ws : List (List ℤ)) → r.cell ≡ x.cell → pos 0 <ℤ g → ws ≡ sums_of p x → IsContent (x.normal.den ∷ all_of ws) (unsigned_abs g)
+    → g *ℤ r.scale ≡ x.normal.den → ws ≡ map (scale g) r.powers → ArePowers p x r
+powers_made p x r g ws c h e i w m = record {
+  same = c;
+  divisor = unsigned_abs g;
+  greatest = subst (λ (rs : List (List ℤ)). IsContent (x.normal.den ∷ all_of rs) (unsigned_abs g)) e i;
+  whole = ap (λ z. z *ℤ r.scale) (positive_is g h) ∙ w;
+  each = ap (λ z. map (scale z) r.powers) (positive_is g h) ∙ sym m ∙ e;
+}

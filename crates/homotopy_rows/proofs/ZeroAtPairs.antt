@@ -1,18 +1,18 @@
 -- powers are 0 exactly at the pairs, and positive elsewhere
-use Rattle.std.proofs.Common.{◌≡◌, ◌≢◌, ◌⊎◌, ◌↔◌, ℕ, zero, suc, ◌+◌, ◌-◌, ◌<◌, ◌≤◌, ◌<ℤ◌, List, [], ◌∷◌, length, map, inl, inr, arith, refl, sym, ap, ap₂, subst, ◌∙◌}
+use Rattle.std.proofs.Common.{◌≡◌, ◌≢◌, ◌⊎◌, ℕ, ◌-◌, ◌<◌, ◌≤◌, ◌<ℤ◌, List, [], ◌∷◌, length, map, inl, inr, arith, refl, sym, ap, ap₂, subst, ◌∙◌}
 use Rattle.std.proofs.lemmas.Int.{ints}
 use Rattle.std.proofs.lemmas.List.{length-map, get_or-map}
 use Rattle.std.proofs.Math.IntN.{ℤ, pos, ◌*ℤ◌}
 use Rattle.wide_int.proofs.Order.{sign_cases, mul_pos_neg_ℤ, zero_product}
 use Rattle.wide_int.proofs.Ring.{mul_zero_ℤ}
 use Rattle.int_vectors.specs.Vectors.{at, scale}
-use Rattle.cayley.specs.Cells.{Cell, EachPair, IsFurther, IsOf}
-use Rattle.cayley.specs.Problems.{Point, Problem, IsProblem, origin, point_at}
+use Rattle.cayley.specs.Cells.{Cell, EachPair, IsFurther}
+use Rattle.cayley.specs.Problems.{Point, Problem, origin, point_at}
 use Rattle.cayley.specs.Resting.{rise}
 use Rattle.cayley.proofs.Algebra.ScaledInverse.{at-scale, length-scale}
 use Rattle.listing_text.specs.declared.listing.ListedCell.{ListedCell}
 use Rattle.homotopy_rows.specs.Points.{IsLevelPair}
-use Rattle.homotopy_rows.specs.Powers.{Row, SideBySide, ArePowers, IsZeroAtPair, IsZeroAtPairs, sums_over, sums, sums_of}
+use Rattle.homotopy_rows.specs.Powers.{Row, SideBySide, ArePowers, IsZeroAtPair, IsZeroAtPairs, sums_over, sums}
 use Rattle.homotopy_rows.proofs.LeastScale.{divisor_positive}
 use Rattle.homotopy_rows.proofs.Summing.{rise_self}
 use native.Mathlib.Decide.{ℕ_discrete}

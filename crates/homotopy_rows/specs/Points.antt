@@ -1,5 +1,5 @@
 -- What the inner functions find of one point of a support.
-use Rattle.std.specs.Prelude.{◌≡◌, ◌≢◌, ℕ, List, ℤ, pos}
+use Rattle.std.specs.Prelude.{◌≡◌, ℕ, List, ℤ, pos}
 use Rattle.wide_int.specs.Whole.{FitsWhole}
 use Rattle.cayley.specs.Cells.{IsFurther}
 use Rattle.cayley.specs.Problems.{Point, point_at}

@@ -4,7 +4,7 @@ use Rattle.std.specs.Io.KnownBytes.{Appends, Consumes, IsAtEnd}
 use Rattle.edge_io.specs.Faults.{Rose}
 use Rattle.mixedcells.specs.Words.{HasMeaning, reads}
 use Rattle.mixedcells.specs.Outcomes.{status_of}
-use Rattle.mixedcells.specs.Answers.{IsReply, IsPlainReply, IsCheckReply}
+use Rattle.mixedcells.specs.Answers.{IsReply, IsPlainReply, IsCheckReply, IsPowersReply}
 use Rattle.mixedcells.specs.Runs.{IsAnswer, IsInput, IsCalledFor, IsFree, IsCutOff, Finishes}
 use Rattle.mixedcells.specs.declared.words.Command.{Command}
 use Rattle.mixedcells.specs.declared.words.Command.TheVariants as verb
@@ -35,6 +35,7 @@ pub replied : (command : Command) (left rest : Option (List ℕ)) (taken : List 
     → (IsTrue (reads command) → IsAtEnd rest) → IsReply command taken o t → (bytes : List ℕ) × IsInput left bytes × IsAnswer command bytes o t
 replied verb.Plain left rest taken o t c l e r = whole_answer verb.Plain left rest taken o t c l (e refl) r
 replied verb.Check left rest taken o t c l e r = whole_answer verb.Check left rest taken o t c l (e refl) r
+replied verb.Powers left rest taken o t c l e r = whole_answer verb.Powers left rest taken o t c l (e refl) r
 replied (verb.Make family seed) None rest taken o t c l e r = (taken, tt, inr (λ x. l, r))
 replied (verb.Make family seed) (Some xs) rest taken o t c l e r = (xs, refl, inr (λ x. never x, r))
 
@@ -46,10 +47,15 @@ check_not_fault : (bytes t : List ℕ) → IsCheckReply bytes WriteFault t → �
 check_not_fault bytes t (inl h) = h.2
 check_not_fault bytes t (inr h) = let e = ap status_of h.2.0 in omega (arith, e)
 
+powers_not_fault : (bytes t : List ℕ) → IsPowersReply bytes WriteFault t → ⊥
+powers_not_fault bytes t (inl h) = h.2
+powers_not_fault bytes t (inr h) = let e = ap status_of h.2.0 in omega (arith, e)
+
 -- no command replies that the sink failed
 pub not_fault : (command : Command) (bytes : List ℕ) (o : Outcome) (t : List ℕ) → IsReply command bytes o t → o ≡ WriteFault → ⊥
 not_fault verb.Plain bytes o t r e = plain_not_fault bytes t (subst (λ q. IsPlainReply bytes q t) e r)
 not_fault verb.Check bytes o t r e = check_not_fault bytes t (subst (λ q. IsCheckReply bytes q t) e r)
+not_fault verb.Powers bytes o t r e = powers_not_fault bytes t (subst (λ q. IsPowersReply bytes q t) e r)
 not_fault (verb.Make family seed) bytes o t r e = let f = ap status_of (sym e ∙ r.0) in omega (arith, f)
 
 module _ (old new : Option (List ℕ)) (before now : ℕ) (text : List ℕ) (outcome result : Outcome) where

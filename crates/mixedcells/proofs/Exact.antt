@@ -22,6 +22,7 @@ use Rattle.mixedcells.specs.Runs.{IsAnswer, IsCalledFor, IsFree}
 use Rattle.mixedcells.proofs.CommandLine.Words.{one_meaning}
 use Rattle.mixedcells.proofs.Readings.{ok_once, err_once, not_both}
 use Rattle.mixedcells.proofs.Checks.{one_check_reply}
+use Rattle.mixedcells.proofs.Powered.{one_powers_reply}
 
 three_ways : {P : Type 0} (m n : ℕ) → (m < n → P) → (m ≡ n → P) → (n < m → P) → P
 three_ways m n f g h = elim (dec_lt m n) [ yes p ↦ f p | no q ↦ elim (ℕ_discrete m n) [ yes e ↦ g e | no r ↦ h (omega arith) ] ]
@@ -92,6 +93,7 @@ one_plain_reply bytes o q t u (inr h) (inr k) =
 one_reply : (command : Command) (bytes : List ℕ) (o q : Outcome) (t u : List ℕ) → IsReply command bytes o t → IsReply command bytes q u → o ≡ q
 one_reply verb.Plain bytes o q t u h k = one_plain_reply bytes o q t u h k
 one_reply verb.Check bytes o q t u h k = one_check_reply bytes o q t u h k
+one_reply verb.Powers bytes o q t u h k = one_powers_reply bytes o q t u h k
 one_reply (verb.Make family seed) bytes o q t u h k = h.0 ∙ sym k.0
 
 one_answer : (command : Command) (bytes : List ℕ) (o q : Outcome) (t u : List ℕ) → IsAnswer command bytes o t → IsAnswer command bytes q u → o ≡ q

@@ -22,4 +22,5 @@ IsInLimits (Scatter n m side) = ((1 ≤ n) × (n ≤ 16)) × ((1 ≤ m) × (m �
 abbrev pub IsFit : Command → Type 0
 IsFit verb.Plain = Unit {0}
 IsFit verb.Check = Unit {0}
+IsFit verb.Powers = Unit {0}
 IsFit (verb.Make family seed) = IsInLimits family

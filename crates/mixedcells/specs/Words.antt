@@ -121,6 +121,7 @@ abbrev pub meaning_after : Text → List Text → Option Meaning
 meaning_after w ws =
     if bytes_eq w (codes "plain") then alone meaning.Plain ws
     else if bytes_eq w (codes "check") then alone meaning.Check ws
+    else if bytes_eq w (codes "powers") then alone meaning.Powers ws
     else if bytes_eq w (codes "generic") then alone meaning.Generic ws
     else if bytes_eq w (codes "list") then option_map meaning.List (searchers ws)
     else if bytes_eq w (codes "sum") then option_map meaning.Sum (searchers ws)
@@ -138,6 +139,7 @@ meaning_of (w ∷ ws) = meaning_after w ws
 abbrev pub built : Meaning → Option Command
 built meaning.Plain = Some verb.Plain
 built meaning.Check = Some verb.Check
+built meaning.Powers = Some verb.Powers
 built (meaning.Make family seed) = Some (verb.Make family seed)
 built meaning.Generic = None
 built (meaning.List searchers) = None
@@ -157,6 +159,7 @@ HasMeaning words = (command : Command) × Means words command
 abbrev pub reads : Command → Bool
 reads verb.Plain = true
 reads verb.Check = true
+reads verb.Powers = true
 reads (verb.Make family seed) = false
 
 -- the words ask for a command that reads its input
@@ -182,6 +185,7 @@ abbrev pub meaning_read : Read → Option Meaning
 meaning_read r =
     if bytes_eq r.name (codes "plain") then Some meaning.Plain
     else if bytes_eq r.name (codes "check") then Some meaning.Check
+    else if bytes_eq r.name (codes "powers") then Some meaning.Powers
     else if bytes_eq r.name (codes "generic") then Some meaning.Generic
     else if bytes_eq r.name (codes "list") then option_map meaning.List (searchers_read r.searchers)
     else if bytes_eq r.name (codes "sum") then option_map meaning.Sum (searchers_read r.searchers)

@@ -25,6 +25,8 @@ pub enum Command {
     Plain,
     /// `check`: judge the cell lines of a listing, without trust in whoever wrote it.
     Check,
+    /// `powers`: write the powers of each cell of a listing that is judged right.
+    Powers,
     /// `make`: write the problem file of this family with the heights behind this seed.
     Make(Family, u64),
 }
@@ -37,6 +39,7 @@ impl Command {
         match self {
             Command::Plain => true,
             Command::Check => true,
+            Command::Powers => true,
             Command::Make(_, _) => false,
         }
     }
@@ -49,6 +52,7 @@ fn built(meaning: Meaning) -> Option<Command>
     match meaning {
         Meaning::Plain => Some(Command::Plain),
         Meaning::Check => Some(Command::Check),
+        Meaning::Powers => Some(Command::Powers),
         Meaning::Make(family, seed) => Some(Command::Make(family, seed)),
         Meaning::Generic => None,
         Meaning::List(_) => None,

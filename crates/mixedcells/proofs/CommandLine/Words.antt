@@ -62,6 +62,7 @@ one_meaning words c d h k = once (command_for words) c d h k
 pub no_reader : (words : List Text) (c : Command) → Means words c → ¬ (IsReading words) → reads c ≡ false
 no_reader words verb.Plain h n = absurd (n (verb.Plain, h, refl))
 no_reader words verb.Check h n = absurd (n (verb.Check, h, refl))
+no_reader words verb.Powers h n = absurd (n (verb.Powers, h, refl))
 no_reader words (verb.Make family seed) h n = refl
 
 pub reader : (words : List Text) (c : Command) → Means words c → IsReading words → IsTrue (reads c)

@@ -32,3 +32,10 @@ row_of-requires-clause-level c =
     let h : c.loop-listed.listed-index < length c.args.listing.now.cells.items = omega (arith, c.loop-listed-test.true, ap length e) in
     let i = rw e at c.listed-item.is in
     (each_item (IsPassed p) lines c.loop-listed.listed-index c.listed-item.result (all_passed p None lines c.requires.listed c.requires.right) h i).0.3
+
+pub returns : goal.returns
+returns c =
+    let p = plain_problem c.args.listing.now.file in
+    let lines = c.args.listing.now.cells.items in
+    let n : length c.args.listing.now.cells.items ≤ c.loop-listed.listed-index = omega (arith, c.loop-listed-test.false, ap length c.deref-listed-items.ensures.value) in
+    made_whole (λ x r. IsGood p x (row r)) lines c.loop-listed.rows.items c.loop-listed.listed-index n c.loop-listed.invariant.made

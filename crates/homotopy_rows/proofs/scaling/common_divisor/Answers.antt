@@ -1,6 +1,5 @@
-use Rattle.std.proofs.Common.{◌≡◌, ◌∙◌, ◌∷◌, ◌<◌, ◌≤◌, ◌<ℤ◌, ℤ, pos, length, take, sym, ap, subst, unsigned_abs, arith, rules, FitsSigned, to_z, to_z-of_z}
+use Rattle.std.proofs.Common.{◌≡◌, ◌∷◌, ◌<ℤ◌, pos, take, sym, ap, subst, unsigned_abs, arith, rules, FitsSigned, to_z, to_z-of_z}
 use Rattle.std.specs.Int.{w128}
-use Rattle.std.proofs.lemmas.Int.{ints}
 use Rattle.wide_int.proofs.CommonDivisors.{gcd_above}
 use Rattle.wide_int.proofs.Signed.{nonneg_fits}
 use Rattle.wide_int.specs.Whole.{FitsWhole}

@@ -1,6 +1,6 @@
-use Rattle.std.proofs.Common.{◌≡◌, ◌<◌, ◌≤◌, ◌∙◌, List, ℤ, length, map, ap, sym, subst, arith, rules, FitsSigned, to_z-of_z, unsigned_abs}
+use Rattle.std.proofs.Common.{◌<◌, ◌≤◌, ◌∙◌, length, map, ap, sym, arith, FitsSigned, to_z-of_z}
 use Rattle.std.specs.Int.{w128}
-use Rattle.int_vectors.specs.Contents.{DividesEach, divided}
+use Rattle.int_vectors.specs.Contents.{divided}
 use Rattle.int_vectors.specs.Vectors.{scale}
 use Rattle.int_vectors.proofs.InPlace.{map_read, map_set, map_end}
 use Rattle.homotopy_rows.proofs.Dividing.{exact_at, quotient_is, all_divided}

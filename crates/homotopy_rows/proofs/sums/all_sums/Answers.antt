@@ -1,8 +1,7 @@
 use Rattle.std.proofs.Common.{◌≡◌, ◌+◌, ◌-◌, ◌<◌, ◌≤◌, ℤ, List, [], ◌∷◌, ◌++◌, length, map, drop, get_or, sym, ap, subst, ◌∙◌, arith}
-use Rattle.cayley.specs.Cells.{IsOf}
+use Rattle.cayley.specs.Cells.{Cell}
 use Rattle.cayley.specs.Files.{plain_problem}
-use Rattle.cayley.specs.Problems.{point_at, unperturbed}
-use Rattle.cayley.specs.Resting.{rise}
+use Rattle.cayley.specs.Problems.{unperturbed}
 use Rattle.cayley.specs.Stored.{file_point}
 use Rattle.cayley.proofs.OneCell.Unperturbed.{same_unperturbed, same_of}
 use Rattle.cell_certificate.specs.Sides.{seen, FitsSupport}
@@ -10,7 +9,7 @@ use Rattle.cell_certificate.proofs.Levels.{level_from}
 use Rattle.cell_certificate.proofs.PlainSums.{sums_fit, flat}
 use Rattle.cell_certificate.proofs.Supports.{supports_count, support_is, near_is, pair_is, cell_count}
 use Rattle.cell_certificate.proofs.Turns.{pair_at}
-use Rattle.homotopy_rows.specs.Flat.{SomePair, IsFlatAt, IsFlat}
+use Rattle.homotopy_rows.specs.Flat.{IsFlatAt, IsFlat}
 use Rattle.homotopy_rows.specs.Points.{IsLevelPair}
 use Rattle.homotopy_rows.specs.Powers.{sums, sums_over}
 use Rattle.homotopy_rows.proofs.Collected.{all_more, all_whole, some_here, some_later, some_none, sums_unranked, some_unranked}
@@ -62,7 +61,7 @@ support_sums-requires-clause-fits c =
     let hc : k < length x.cell = omega (arith, h, cell_count file x.cell valid of) in
     let own = (pair_at (unperturbed p).supports x.cell (FitsSupport x.normal.den x.normal.v) k ((sums_fit p x.cell x.normal.v x.normal.den).0 c.requires.fits) hc).1 in
     let at_points = subst (λ s. FitsSupport x.normal.den x.normal.v s (get_or x.cell k (0, 0)).0 (get_or x.cell k (0, 0)).1) (support_is file c.support.result.now k valid h e) own in
-    subst (λ ps. FitsSupport x.normal.den x.normal.v (map seen c.support.result.now) (get_or ps k (0, 0)).0 (get_or ps k (0, 0)).1) (sym c.pairs-pairs.ensures.same) at_points
+    subst (λ (ps : Cell). FitsSupport x.normal.den x.normal.v (map seen c.support.result.now) (get_or ps k (0, 0)).0 (get_or ps k (0, 0)).1) (sym c.pairs-pairs.ensures.same) at_points
 
 pub support_sums-requires-clause-level : goal.support_sums-requires-clause-level
 support_sums-requires-clause-level c =
@@ -79,7 +78,7 @@ support_sums-requires-clause-level c =
     let levels = (flat p x.cell x.normal.v x.normal.den).0 (level_from p x.cell c.requires.listed.0 x.normal.v x.normal.den c.requires.level) in
     let own = (pair_at (unperturbed p).supports x.cell (IsLevelPair x.normal.den x.normal.v) k levels hc).1 in
     let at_points = subst (λ s. IsLevelPair x.normal.den x.normal.v s (get_or x.cell k (0, 0)).0 (get_or x.cell k (0, 0)).1) (support_is file c.support.result.now k valid h e) own in
-    subst (λ ps. IsLevelPair x.normal.den x.normal.v (map seen c.support.result.now) (get_or ps k (0, 0)).0 (get_or ps k (0, 0)).1) (sym c.pairs-pairs.ensures.same) at_points
+    subst (λ (ps : Cell). IsLevelPair x.normal.den x.normal.v (map seen c.support.result.now) (get_or ps k (0, 0)).0 (get_or ps k (0, 0)).1) (sym c.pairs-pairs.ensures.same) at_points
 
 pub returns-in-Err : goal.returns-in-Err
 returns-in-Err c =

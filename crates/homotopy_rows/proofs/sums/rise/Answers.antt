@@ -20,4 +20,4 @@ returns-clause-fits c =
     let den = c.args.normal.now.den in
     let fr : FitsSigned w128 c.dot_between_unchecked.result = search rules in
     let e : c.dot_between_unchecked.result ≡ rise c.args.normal.now.den c.args.normal.now.v (seen c.args.a.now) (seen c.args.x.now) = search rules in
-    subst FitsWhole (sym e) (fits_total (den *ℤ (c.args.x.now.height -ℤ c.args.a.now.height)) (sub c.args.x.now.coords c.args.a.now.coords) c.args.normal.now.v c.requires.fits.1)
+    subst FitsWhole (sym (to_z-of_z {w = w128} {z = c.dot_between_unchecked.result} fr)) (subst FitsWhole (sym e) (fits_total (den *ℤ (c.args.x.now.height -ℤ c.args.a.now.height)) (sub c.args.x.now.coords c.args.a.now.coords) c.args.normal.now.v c.requires.fits.1))

@@ -1,4 +1,4 @@
-use Rattle.std.proofs.Common.{rules, ◌+◌, ◌-◌, ◌≤◌, length, map, sym, subst, arith, FitsSigned, to_z-of_z}
+use Rattle.std.proofs.Common.{rules, ◌+◌, ◌-◌, length, map, sym, subst, arith, FitsSigned, to_z-of_z}
 use Rattle.std.specs.Prelude.{IsTrue}
 use Rattle.std.specs.Int.{w128}
 use Rattle.wide_int.proofs.Signed.{is_zero, not_zero}

@@ -1,4 +1,4 @@
-use Rattle.std.proofs.Common.{rules, ◌≡◌, ◌<◌, ◌∙◌, ℤ, List, [], ◌∷◌, ◌++◌, length, map, sym, ap, subst, arith, FitsSigned}
+use Rattle.std.proofs.Common.{rules, ◌<◌, ◌∙◌, ℤ, List, [], ◌∷◌, ◌++◌, length, map, sym, ap, subst, arith, FitsSigned}
 use Rattle.std.specs.Int.{w128}
 use Rattle.std.proofs.lemmas.Int.{to_z-of_z}
 use Rattle.std.proofs.lemmas.List.{length-map}
