@@ -8,6 +8,9 @@ use Rattle.cayley.proofs.Searching.Listing.{compare_cells}
 use Rattle.support_text.specs.declared.fault.FormatFault.{FormatFault}
 use Rattle.support_text.specs.ProblemText.{problem_of}
 use Rattle.listing_text.specs.Listings.{IsListingOf}
+use Rattle.listing_text.specs.declared.listing.Listing.{Listing}
+use Rattle.cell_certificate.specs.Answers.{IsRight}
+use Rattle.homotopy_rows.specs.Answers.{IsPowersText}
 use Rattle.plain_lister.specs.Choices.{IsExcess, HasTooMany, product, pair_counts}
 use Rattle.plain_lister.specs.Lists.{IsFirstUnfit, AllFit}
 use Rattle.mixedcells.specs.declared.words.meaning.Family.{Family}
@@ -17,7 +20,7 @@ use Rattle.mixedcells.specs.declared.outcome.Outcome.{Outcome}
 use Rattle.mixedcells.specs.declared.outcome.Outcome.TheVariants as variant
 use Rattle.mixedcells.specs.Words.{Means}
 use Rattle.mixedcells.specs.Outcomes.{status_of}
-use Rattle.mixedcells.specs.Answers.{limit, IsListReply, IsPlainReply, IsMadeReply, IsReply}
+use Rattle.mixedcells.specs.Answers.{limit, IsListReply, IsListingText, IsPlainReply, IsPowersReply, IsMadeReply, IsReply}
 use Rattle.mixedcells.specs.Runs.{IsAnswer, IsCalledFor, IsFree}
 use Rattle.mixedcells.proofs.CommandLine.Words.{one_meaning}
 use Rattle.mixedcells.proofs.Readings.{ok_once, err_once, not_both}
@@ -204,6 +207,17 @@ known words left bytes o t e h = subst (λ l. IsCalledFor words l o t) e h
 pub ended_listed : (words : List (List ℕ)) (left : Option (List ℕ)) (bytes : List ℕ) (o : Outcome) (t : List ℕ) → left ≡ Some bytes → Means words verb.Plain → o ≡ variant.Ok → IsCalledFor words left o t
     → (file : File) × (problem_of bytes ≡ Ok file) × IsListingOf file t
 ended_listed words left bytes o t e means ok h = listed words bytes t means (subst (λ q. IsCalledFor words (Some bytes) q t) ok (known words left bytes o t e h))
+
+powers_text : (bytes t : List ℕ) → IsPowersReply bytes variant.Ok t → (listing : Listing) × IsListingText bytes listing × IsRight listing × IsPowersText listing t
+powers_text bytes t (inl h) = (h.0, h.1, (h.2.0, h.2.2))
+powers_text bytes t (inr h) = absurd (let e = ap status_of h.2.0 in omega (arith, e))
+
+-- what `powers` that ended Ok has written
+pub ended_powers : (words : List (List ℕ)) (left : Option (List ℕ)) (bytes : List ℕ) (o : Outcome) (t : List ℕ) → left ≡ Some bytes → Means words verb.Powers → o ≡ variant.Ok → IsCalledFor words left o t
+    → (listing : Listing) × IsListingText bytes listing × IsRight listing × IsPowersText listing t
+ended_powers words left bytes o t e means ok h =
+    powers_text bytes t (reply_not_long verb.Powers bytes variant.Ok t (λ f. omega (arith, f))
+    (answer_of words bytes verb.Powers variant.Ok t means (subst (λ q. IsCalledFor words (Some bytes) q t) ok (known words left bytes o t e h))))
 
 made_answer : (family : Family) (seed : ℕ) (bytes : List ℕ) (o : Outcome) (t : List ℕ) → IsAnswer (verb.Make family seed) bytes o t → IsMadeReply family seed o t
 made_answer family seed bytes o t (inl l) = let f : IsTrue false = l.0.0 in cc
