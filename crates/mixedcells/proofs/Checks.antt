@@ -41,7 +41,7 @@ verdict_answer listing (variant.TooMany choices) t h = absurd h
 verdict_answer listing (variant.Tie proof) t h = absurd h
 verdict_answer listing variant.NeedsTeam t h = absurd h
 
-one_verdict : (listing : Listing) (r s : Answer) → HadMemory r → HadMemory s → IsAnswer listing r → IsAnswer listing s → r ≡ s
+pub one_verdict : (listing : Listing) (r s : Answer) → HadMemory r → HadMemory s → IsAnswer listing r → IsAnswer listing s → r ≡ s
 one_verdict listing r (Ok Yes) m n a b = (yes_exactly listing r a m).1 b
 one_verdict listing r (Ok (No line reason)) m n a b = (no_exactly listing r a m line reason).1 b
 one_verdict listing r (Err (Overflow line)) m n a b = (overflow_exactly listing r a m line).1 b
@@ -51,7 +51,7 @@ one_verdict listing r (Err OutOfMemory) m n a b = absurd n
 abbrev pub read_of : Listing → Listed
 read_of listing = (listing.file, listing.cells.items)
 
-same_answer : (l k : Listing) → read_of l ≡ read_of k → (r : Answer) → IsAnswer l r → IsAnswer k r
+pub same_answer : (l k : Listing) → read_of l ≡ read_of k → (r : Answer) → IsAnswer l r → IsAnswer k r
 same_answer l k e (Ok Yes) a = subst (λ (x : Listed). AllPass (plain_problem x.0) None x.1) e a
 same_answer l k e (Ok (No line reason)) a = subst (λ (x : Listed). FirstRefused (plain_problem x.0) None x.1 (WrongAt (plain_problem x.0) line reason)) e a
 same_answer l k e (Err (Overflow line)) a = subst (λ (x : Listed). FirstRefused (plain_problem x.0) None x.1 (TooLargeAt (plain_problem x.0) line)) e a

@@ -8,6 +8,9 @@ use Rattle.cayley.proofs.Searching.Listing.{compare_cells}
 use Rattle.support_text.specs.declared.fault.FormatFault.{FormatFault}
 use Rattle.support_text.specs.ProblemText.{problem_of}
 use Rattle.listing_text.specs.Listings.{IsListingOf}
+use Rattle.listing_text.specs.declared.listing.Listing.{Listing}
+use Rattle.cell_certificate.specs.Answers.{IsRight}
+use Rattle.homotopy_rows.specs.Answers.{IsPowersText}
 use Rattle.plain_lister.specs.Choices.{IsExcess, HasTooMany, product, pair_counts}
 use Rattle.plain_lister.specs.Lists.{IsFirstUnfit, AllFit}
 use Rattle.plain_lister.specs.LeastTies.{IsLeastTie, IsLeastTiedOrUnfit}
@@ -25,11 +28,12 @@ use Rattle.mixedcells.specs.declared.outcome.Outcome.TheVariants as variant
 use Rattle.mixedcells.specs.Words.{Means}
 use Rattle.mixedcells.specs.Outcomes.{status_of}
 use Rattle.mixedcells.specs.Walks.{IsReachedListing, IsReachedSum, IsWalkReply, IsTieReply}
-use Rattle.mixedcells.specs.Answers.{limit, IsListReply, IsFileReply, IsPlainReply, IsAloneReply, IsMadeReply, IsReply}
+use Rattle.mixedcells.specs.Answers.{limit, IsListReply, IsFileReply, IsListingText, IsPlainReply, IsAloneReply, IsPowersReply, IsMadeReply, IsReply}
 use Rattle.mixedcells.specs.Runs.{IsAnswer, IsCalledFor, IsFree, IsWalkEnd, AreTiesOfOne, AreLoose}
 use Rattle.mixedcells.proofs.CommandLine.Words.{one_meaning}
 use Rattle.mixedcells.proofs.Readings.{ok_once, err_once, not_both}
 use Rattle.mixedcells.proofs.Checks.{one_check_reply}
+use Rattle.mixedcells.proofs.Powered.{one_powers_reply}
 
 three_ways : {P : Type 0} (m n : ℕ) → (m < n → P) → (m ≡ n → P) → (n < m → P) → P
 three_ways m n f g h = elim (dec_lt m n) [ yes p ↦ f p | no q ↦ elim (ℕ_discrete m n) [ yes e ↦ g e | no r ↦ h (omega arith) ] ]
@@ -206,6 +210,7 @@ AreAlikeOf (verb.List n) o q = (nat_le 2 n ≡ false) × IsWalkEnd o × IsWalkEn
 AreAlikeOf (verb.Sum n) o q = (nat_le 2 n ≡ false) × IsWalkEnd o × IsWalkEnd q
 AreAlikeOf verb.Check o q = ⊥
 AreAlikeOf verb.Generic o q = AreTiesOfOne o q
+AreAlikeOf verb.Powers o q = ⊥
 AreAlikeOf (verb.Make family seed) o q = ⊥
 
 loose_of : (words : List (List ℕ)) (command : Command) (o q : Outcome) → Means words command → AreAlikeOf command o q → AreLoose words o q
@@ -214,6 +219,7 @@ loose_of words (verb.List n) o q means a = inl ((n, a.0, inl means), a.1, a.2)
 loose_of words (verb.Sum n) o q means a = inl ((n, a.0, inr means), a.1, a.2)
 loose_of words verb.Check o q means a = absurd a
 loose_of words verb.Generic o q means a = inr (means, a)
+loose_of words verb.Powers o q means a = absurd a
 loose_of words (verb.Make family seed) o q means a = absurd a
 
 one_or_team : {P : Type 0} (b : Bool) → b ≡ false → IsTrue b → P
@@ -235,6 +241,7 @@ one_reply (verb.List n) bytes o q t u h k = one_alone_reply n IsReachedListing b
 one_reply (verb.Sum n) bytes o q t u h k = one_alone_reply n IsReachedSum bytes o q t u h k
 one_reply verb.Check bytes o q t u h k = inl (one_check_reply bytes o q t u h k)
 one_reply verb.Generic bytes o q t u h k = one_file_reply IsTieReply AreTiesOfOne one_tie_reply bytes o q t u h k
+one_reply verb.Powers bytes o q t u h k = inl (one_powers_reply bytes o q t u h k)
 one_reply (verb.Make family seed) bytes o q t u h k = inl (h.0 ∙ sym k.0)
 
 one_answer : (command : Command) (bytes : List ℕ) (o q : Outcome) (t u : List ℕ) → IsAnswer command bytes o t → IsAnswer command bytes q u → (o ≡ q) ⊎ AreAlikeOf command o q
@@ -362,6 +369,17 @@ known words left bytes o t e h = subst (λ l. IsCalledFor words l o t) e h
 pub ended_listed : (words : List (List ℕ)) (left : Option (List ℕ)) (bytes : List ℕ) (o : Outcome) (t : List ℕ) → left ≡ Some bytes → Means words verb.Plain → o ≡ variant.Ok → IsCalledFor words left o t
     → (file : File) × (problem_of bytes ≡ Ok file) × IsListingOf file t
 ended_listed words left bytes o t e means ok h = listed words bytes t means (subst (λ q. IsCalledFor words (Some bytes) q t) ok (known words left bytes o t e h))
+
+powers_text : (bytes t : List ℕ) → IsPowersReply bytes variant.Ok t → (listing : Listing) × IsListingText bytes listing × IsRight listing × IsPowersText listing t
+powers_text bytes t (inl h) = (h.0, h.1, (h.2.0, h.2.2))
+powers_text bytes t (inr h) = absurd (let e = ap status_of h.2.0 in omega (arith, e))
+
+-- what `powers` that ended Ok has written
+pub ended_powers : (words : List (List ℕ)) (left : Option (List ℕ)) (bytes : List ℕ) (o : Outcome) (t : List ℕ) → left ≡ Some bytes → Means words verb.Powers → o ≡ variant.Ok → IsCalledFor words left o t
+    → (listing : Listing) × IsListingText bytes listing × IsRight listing × IsPowersText listing t
+ended_powers words left bytes o t e means ok h =
+    powers_text bytes t (reply_not_long verb.Powers bytes variant.Ok t (λ f. omega (arith, f))
+    (answer_of words bytes verb.Powers variant.Ok t means (subst (λ q. IsCalledFor words (Some bytes) q t) ok (known words left bytes o t e h))))
 
 made_answer : (family : Family) (seed : ℕ) (bytes : List ℕ) (o : Outcome) (t : List ℕ) → IsAnswer (verb.Make family seed) bytes o t → IsMadeReply family seed o t
 made_answer family seed bytes o t (inl l) = let f : IsTrue false = l.0.0 in cc

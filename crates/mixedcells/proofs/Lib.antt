@@ -2,6 +2,7 @@ pub mod CommandLine
 pub mod Ended
 pub mod Readings
 pub mod Checks
+pub mod Powered
 pub mod Exact
 pub mod Listings
 pub mod Counted

@@ -8,6 +8,8 @@ use Rattle.listing_text.specs.declared.listing.Listing.{Listing}
 use Rattle.listing_text.specs.ListingText.{listing_of}
 use Rattle.listing_text.specs.Listings.{IsListingOf}
 use Rattle.cell_certificate.specs.Answers.{IsRight, IsWrong, IsTooLarge}
+use Rattle.homotopy_rows.specs.Answers.{IsPowersText}
+use Rattle.homotopy_rows.specs.Flat.{FirstFlat}
 use Rattle.plain_lister.specs.Choices.{HasTooMany, IsExcess}
 use Rattle.plain_lister.specs.Lists.{AllFit, IsFirstUnfit}
 use Rattle.mixedcells.specs.declared.words.meaning.Family.{Family}
@@ -89,6 +91,36 @@ IsCheckReply bytes outcome text =
     ((listing : Listing) × IsListingText bytes listing × IsVerdictReply listing outcome text)
     ⊎ ((fault : FormatFault) × (listing_of bytes ≡ Err fault) × TellsFault fault outcome text)
 
+-- every line of the listing passes, and this is the first with a further point of the sum 0
+abbrev pub IsFlatLine : Listing → ℕ → Type 0
+IsFlatLine listing line = IsRight listing × FirstFlat (plain_problem listing.file) listing.cells.items line
+
+-- no line of the listing has a further point of the sum 0
+abbrev pub HasNoFlat : Listing → Type 0
+HasNoFlat listing = (line : ℕ) → ¬ (FirstFlat (plain_problem listing.file) listing.cells.items line)
+
+-- the powers of a listing's cells, where every line passes and none is flat; else the answer of `check`, or the first flat line with the reason 6
+abbrev pub IsRowsReply : Listing → Outcome → List ℕ → Type 0
+IsRowsReply listing variant.Ok text = IsRight listing × HasNoFlat listing × IsPowersText listing text
+IsRowsReply listing (variant.No line reason) text = (text ≡ no_line line reason) × (IsWrong listing line reason ⊎ ((reason ≡ 6) × IsFlatLine listing line))
+IsRowsReply listing (variant.OverflowLine line) text = (text ≡ overflow_line line) × IsTooLarge listing line
+IsRowsReply listing variant.Usage text = ⊥
+IsRowsReply listing (variant.Format line kind) text = ⊥
+IsRowsReply listing (variant.OverflowCell cell) text = ⊥
+IsRowsReply listing variant.ReadFault text = ⊥
+IsRowsReply listing variant.WriteFault text = ⊥
+IsRowsReply listing variant.OutOfMemory text = ⊥
+IsRowsReply listing variant.TooLong text = ⊥
+IsRowsReply listing (variant.TooMany choices) text = ⊥
+IsRowsReply listing (variant.Tie proof) text = ⊥
+IsRowsReply listing variant.NeedsTeam text = ⊥
+
+-- what `powers` replies: what is said of the listing that the bytes mean, or their first fault
+abbrev pub IsPowersReply : List ℕ → Outcome → List ℕ → Type 0
+IsPowersReply bytes outcome text =
+    ((listing : Listing) × IsListingText bytes listing × IsRowsReply listing outcome text)
+    ⊎ ((fault : FormatFault) × (listing_of bytes ≡ Err fault) × TellsFault fault outcome text)
+
 -- what `make` replies: the canonical text of the family's file
 abbrev pub IsMadeReply : Family → ℕ → Outcome → List ℕ → Type 0
 IsMadeReply family seed outcome text = (outcome ≡ variant.Ok) × (text ≡ problem_text (family_file family seed))
@@ -100,4 +132,5 @@ IsReply (verb.List searchers) bytes outcome text = IsAloneReply searchers IsReac
 IsReply (verb.Sum searchers) bytes outcome text = IsAloneReply searchers IsReachedSum bytes outcome text
 IsReply verb.Generic bytes outcome text = IsGenericReply bytes outcome text
 IsReply verb.Check bytes outcome text = IsCheckReply bytes outcome text
+IsReply verb.Powers bytes outcome text = IsPowersReply bytes outcome text
 IsReply (verb.Make family seed) bytes outcome text = IsMadeReply family seed outcome text

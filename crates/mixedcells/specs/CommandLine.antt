@@ -39,8 +39,11 @@ making_line = with_subcommand nameless making
 abbrev pub plain_line : App
 plain_line = with_subcommand (with_subcommand making_line (bare (codes "plain"))) (bare (codes "check"))
 
+abbrev pub powers_line : App
+powers_line = with_subcommand plain_line (bare (codes "powers"))
+
 abbrev pub generic_line : App
-generic_line = with_subcommand plain_line (bare (codes "generic"))
+generic_line = with_subcommand powers_line (bare (codes "generic"))
 
 abbrev pub top : App
 top = with_subcommand (with_subcommand generic_line (searching (codes "list"))) (searching (codes "sum"))

@@ -25,4 +25,5 @@ IsFit (verb.List searchers) = Unit {0}
 IsFit (verb.Sum searchers) = Unit {0}
 IsFit verb.Check = Unit {0}
 IsFit verb.Generic = Unit {0}
+IsFit verb.Powers = Unit {0}
 IsFit (verb.Make family seed) = IsInLimits family

@@ -121,6 +121,7 @@ abbrev pub meaning_after : Text → List Text → Option Meaning
 meaning_after w ws =
     if bytes_eq w (codes "plain") then alone meaning.Plain ws
     else if bytes_eq w (codes "check") then alone meaning.Check ws
+    else if bytes_eq w (codes "powers") then alone meaning.Powers ws
     else if bytes_eq w (codes "generic") then alone meaning.Generic ws
     else if bytes_eq w (codes "list") then option_map meaning.List (searchers ws)
     else if bytes_eq w (codes "sum") then option_map meaning.Sum (searchers ws)
@@ -141,6 +142,7 @@ built (meaning.List searchers) = Some (verb.List searchers)
 built (meaning.Sum searchers) = Some (verb.Sum searchers)
 built meaning.Check = Some verb.Check
 built meaning.Generic = Some verb.Generic
+built meaning.Powers = Some verb.Powers
 built (meaning.Make family seed) = Some (verb.Make family seed)
 
 abbrev pub command_for : List Text → Option Command
@@ -160,6 +162,7 @@ needs_team (verb.List searchers) = nat_le 2 searchers
 needs_team (verb.Sum searchers) = nat_le 2 searchers
 needs_team verb.Check = false
 needs_team verb.Generic = false
+needs_team verb.Powers = false
 needs_team (verb.Make family seed) = false
 
 -- whether a command reads its input; for more than one searcher nothing is read
@@ -169,6 +172,7 @@ reads (verb.List searchers) = not (nat_le 2 searchers)
 reads (verb.Sum searchers) = not (nat_le 2 searchers)
 reads verb.Check = true
 reads verb.Generic = true
+reads verb.Powers = true
 reads (verb.Make family seed) = false
 
 -- the words ask for more than one searcher
@@ -202,6 +206,7 @@ abbrev pub meaning_read : Read → Option Meaning
 meaning_read r =
     if bytes_eq r.name (codes "plain") then Some meaning.Plain
     else if bytes_eq r.name (codes "check") then Some meaning.Check
+    else if bytes_eq r.name (codes "powers") then Some meaning.Powers
     else if bytes_eq r.name (codes "generic") then Some meaning.Generic
     else if bytes_eq r.name (codes "list") then option_map meaning.List (searchers_read r.searchers)
     else if bytes_eq r.name (codes "sum") then option_map meaning.Sum (searchers_read r.searchers)

@@ -8,7 +8,8 @@ use cayley::{Cell, TieProof};
 pub enum Outcome {
     /// The command did what it is for.
     Ok,
-    /// `check`: this line of the listing is the first that doesn't pass, for this reason.
+    /// `check` and `powers`: this line of the listing is the first that doesn't pass, for this reason;
+    /// `powers`, reason 6: all pass, and this is the first with a further point of the sum 0.
     No { line: u64, reason: u8 },
     /// The words mean no command; nothing was read.
     Usage,
@@ -22,7 +23,7 @@ pub enum Outcome {
     /// such a working. `generic`: the least cell that has a tie or doesn't fit. `list` and `sum`: a
     /// cell of the path tree.
     OverflowCell { cell: Cell },
-    /// `check`: judging this line needs a number that doesn't fit.
+    /// `check` and `powers`: judging this line needs a number that doesn't fit.
     OverflowLine { line: u64 },
     /// The source failed; nothing was written.
     ReadFault,

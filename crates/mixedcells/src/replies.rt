@@ -1,7 +1,8 @@
 // What each command replies on the bytes of its input.
 ghost use Rattle.std.specs.Prelude.{◌≡◌, IfOk, false};
+ghost use Rattle.cell_certificate.specs.Answers.{IsRight};
 ghost use Rattle.cell_certificate.specs.Written.{AreListed};
-ghost use Rattle.mixedcells.specs.Answers.{IsReply, IsFileReply, IsPlainReply, IsGenericReply, IsListReply, IsCheckReply, IsMadeReply, IsVerdictReply, TellsFault};
+ghost use Rattle.mixedcells.specs.Answers.{IsReply, IsFileReply, IsPlainReply, IsGenericReply, IsListReply, IsCheckReply, IsPowersReply, IsRowsReply, IsMadeReply, IsVerdictReply, TellsFault};
 ghost use Rattle.mixedcells.specs.Walks.{IsReachedListing, IsReachedSum, IsWalkReply};
 ghost use Rattle.mixedcells.specs.Words.{needs_team};
 ghost use Rattle.mixedcells.specs.Families as families;
@@ -14,11 +15,15 @@ use crate::words::{Command, Family};
 use cayley::{LiftFile, Problem};
 use cell_certificate::{CheckFault, Verdict};
 use family_gen::{cyclic, scatter};
+use homotopy_rows::{RowFault, rows_of, write_rows};
 use listing_text::{Listing, read_listing, write_listing};
 use plain_lister::{PlainFault, plain_list};
 use std::alloc::Global;
 use support_text::{FormatFault, TextFault, read_problem, write_problem};
 use wide_int::OutOfMemory;
+
+// The reason of a line that passes but has a further point of the sum 0.
+const FLAT: u8 = 6;
 
 /// An outcome and the text that is written for it.
 #[derive(Drop)]
@@ -39,6 +44,7 @@ pub fn answer(alloc: Global, command: Command, bytes: &[u8]) -> Result<Reply, Ou
         Command::Sum(_) => sum(alloc, bytes),
         Command::Check => check(alloc, bytes),
         Command::Generic => generic(alloc, bytes),
+        Command::Powers => powers(alloc, bytes),
         Command::Make(family, seed) => made(alloc, family, seed),
     }
 }
@@ -171,6 +177,67 @@ fn verdict(alloc: Global, listing: &Listing) -> Result<Reply, OutOfMemory>
             })
         }
         Err(CheckFault::OutOfMemory) => Err(OutOfMemory),
+    }
+}
+
+// What `powers` replies.
+fn powers(alloc: Global, bytes: &[u8]) -> Result<Reply, OutOfMemory>
+    ensures { IfOk result (λ r. IsPowersReply bytes.now r.outcome r.text.items) }
+{
+    match read_listing(alloc, bytes) {
+        Ok(listing) => judged_rows(alloc, &listing),
+        Err(TextFault::Format(fault)) => refusal(alloc, fault),
+        Err(TextFault::OutOfMemory) => Err(OutOfMemory),
+    }
+}
+
+// The powers of a listing's cells where every line passes, else what the checker says.
+fn judged_rows(alloc: Global, listing: &Listing) -> Result<Reply, OutOfMemory>
+    requires { AreListed listing.now }
+    ensures { IfOk result (λ r. IsRowsReply listing.now r.outcome r.text.items) }
+{
+    match cell_certificate::check(alloc, listing) {
+        Ok(Verdict::Yes) => rows(alloc, listing),
+        Ok(Verdict::No { line, reason }) => {
+            let text = no_line(alloc, line, reason)?;
+            Ok(Reply {
+                outcome: Outcome::No { line, reason },
+                text,
+            })
+        }
+        Err(CheckFault::Overflow { line }) => {
+            let text = overflow_line(alloc, line)?;
+            Ok(Reply {
+                outcome: Outcome::OverflowLine { line },
+                text,
+            })
+        }
+        Err(CheckFault::OutOfMemory) => Err(OutOfMemory),
+    }
+}
+
+// The powers of a listing whose lines all pass, or its first flat line.
+fn rows(alloc: Global, listing: &Listing) -> Result<Reply, OutOfMemory>
+    requires listed { AreListed listing.now }
+    requires right { IsRight listing.now }
+    ensures { IfOk result (λ r. IsRowsReply listing.now r.outcome r.text.items) }
+{
+    match rows_of(alloc, listing) {
+        Ok(rows) => {
+            let text = write_rows(alloc, &rows)?;
+            Ok(Reply {
+                outcome: Outcome::Ok,
+                text,
+            })
+        }
+        Err(RowFault::Flat { line }) => {
+            let text = no_line(alloc, line, FLAT)?;
+            Ok(Reply {
+                outcome: Outcome::No { line, reason: FLAT },
+                text,
+            })
+        }
+        Err(RowFault::OutOfMemory) => Err(OutOfMemory),
     }
 }
 

@@ -327,6 +327,45 @@ fn listings_are_judged_line_by_line(rt: HostRuntime) -> Result<(), Fail> {
 }
 
 #[test]
+fn powers_of_listed_cells(rt: HostRuntime) -> Result<(), Fail> {
+    let rows: [(&[u8], &[u8], u8, &[u8]); 5] = [
+        (
+            THREE_POINTS,
+            b"cells 2\ncell 1 2 : 2 / 1\ncell 2 3 : -1 / 1\nend\n",
+            0,
+            b"homotopies 2\ncell 1 2 : 1\npowers 0 0 6\ncell 2 3 : 1\npowers 3 0 0\nend\n",
+        ),
+        (
+            SEGMENT,
+            b"cells 1\ncell 1 2 : -1 / 2\nend\n",
+            0,
+            b"homotopies 1\ncell 1 2 : 1\npowers 0 0\nend\n",
+        ),
+        (
+            PERTURBED,
+            b"cells 2\ncell 1 2 : 0 / 1\ncell 2 3 : 0 / 1\nend\n",
+            1,
+            b"no: line 9 reason 6\n",
+        ),
+        (
+            STARTED,
+            b"cells 1\ncell 1 2 1 3 : -7 -4 / 1\nend\n",
+            1,
+            b"no: line 17 reason 4\n",
+        ),
+        (SEGMENT, b"", 3, b"format: line 7 kind 8\n"),
+    ];
+    for (file, cells, want, text) in rows {
+        let mut input = file.to_vec(rt.alloc())?;
+        input.extend_from_slice(cells)?;
+        let (status, written) = run(rt.alloc(), "powers", &input)?;
+        assert_eq!(rt; status, want);
+        assert_eq!(rt; written.as_slice(), text);
+    }
+    Ok(())
+}
+
+#[test]
 fn a_listing_is_no_problem_file(rt: HostRuntime) -> Result<(), Fail> {
     let input = squares_with(rt.alloc(), CELLS)?;
     let (status, written) = run(rt.alloc(), "plain", &input)?;

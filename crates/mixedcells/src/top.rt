@@ -10,8 +10,9 @@ ghost use Rattle.support_text.specs.ProblemText.{problem_of};
 ghost use Rattle.support_text.specs.Writing.{problem_text};
 ghost use Rattle.listing_text.specs.declared.listing.Listing.{Listing};
 ghost use Rattle.listing_text.specs.Listings.{IsListingOf};
-ghost use Rattle.cell_certificate.specs.Answers.{IsTooLarge};
+ghost use Rattle.cell_certificate.specs.Answers.{IsRight, IsTooLarge};
 ghost use Rattle.cell_certificate.specs.Written.{AreMixed};
+ghost use Rattle.homotopy_rows.specs.Answers.{IsPowersText};
 ghost use Rattle.plain_lister.specs.Choices.{HasTooMany};
 ghost use Rattle.plain_lister.specs.Lists.{AllFit};
 ghost use Rattle.mixedcells.specs.declared.words.meaning.Family.{Family};
@@ -96,6 +97,9 @@ pub fn run_alone<S: Source, K: Sink>(
     // More than one searcher are wanted exactly where the words ask for them; nothing is read or written then.
     ensures needs_team { (result ≡ Outcome.NeedsTeam) ↔ IsForTeam (map string_bytes words.now) }
     ensures untouched { result ≡ Outcome.NeedsTeam → (source.new ≡ source.old) × (sink.new ≡ sink.old) }
+    // `powers` that ends Ok has written exactly the powers of each cell of the listing, whose lines all pass.
+    ensures powers { (bytes : List ℕ) → S.left source.old ≡ Some bytes → Means (map string_bytes words.now) Command.Powers → result ≡ Outcome.Ok
+        → (listing : Listing) × IsListingText bytes listing × IsRight listing × ((text : List ℕ) × IsPowersText listing text × Appends (K.held sink.old) (K.held sink.new) text) }
     ensures read_fault { result ≡ Outcome.ReadFault → Rose (S.faults source.old) (S.faults source.new) }
     // What `make` is asked for comes, whatever the source is, unless the sink fails or there is no memory.
     ensures made { (family : Family) (seed : ℕ) → Means (map string_bytes words.now) (Command.Make family seed) → (result ≡ Outcome.Ok) ⊎ IsFree result }

@@ -31,6 +31,8 @@ pub enum Command {
     Check,
     /// `generic`: tell whether the path of a problem file has a tie.
     Generic,
+    /// `powers`: write the powers of each cell of a listing that is judged right.
+    Powers,
     /// `make`: write the problem file of this family with the heights behind this seed.
     Make(Family, u64),
 }
@@ -45,6 +47,7 @@ impl Command {
             Command::List(searchers) | Command::Sum(searchers) => !(2 <= searchers),
             Command::Check => true,
             Command::Generic => true,
+            Command::Powers => true,
             Command::Make(_, _) => false,
         }
     }
@@ -70,6 +73,7 @@ fn built(meaning: Meaning) -> Option<Command>
         Meaning::Sum(searchers) => Some(Command::Sum(searchers)),
         Meaning::Check => Some(Command::Check),
         Meaning::Generic => Some(Command::Generic),
+        Meaning::Powers => Some(Command::Powers),
         Meaning::Make(family, seed) => Some(Command::Make(family, seed)),
     }
 }

@@ -14,7 +14,7 @@ use Rattle.mixedcells.specs.declared.words.meaning.Meaning.TheVariants as meanin
 use Rattle.mixedcells.specs.CommandLine.{top}
 use Rattle.mixedcells.specs.Reading.{read}
 use Rattle.mixedcells.specs.Words.{after, alone, number, searchers_in, searchers, meaning_found, meaning_of, made}
-use Rattle.mixedcells.proofs.CommandLine.Shapes.{plain_taken, plain_read, check_taken, check_read, generic_taken, generic_read, list_taken, list_read, list_joined_taken, list_joined_read, list_two_taken, list_two_read, sum_taken, sum_read, sum_joined_taken, sum_joined_read, sum_two_taken, sum_two_read}
+use Rattle.mixedcells.proofs.CommandLine.Shapes.{plain_taken, plain_read, check_taken, check_read, powers_taken, powers_read, generic_taken, generic_read, list_taken, list_read, list_joined_taken, list_joined_read, list_two_taken, list_two_read, sum_taken, sum_read, sum_joined_taken, sum_joined_read, sum_two_taken, sum_two_read}
 
 abbrev pub IsRead : List Text → Meaning → Type 0
 IsRead ws m = (takes top ws ≡ true) × (meaning_found (read (subcommand_of top ws)) ≡ Some m)
@@ -59,6 +59,10 @@ plain_law (w ∷ ws) m e = cc
 check_law : (ws : List Text) (m : Meaning) → alone meaning.Check ws ≡ Some m → IsRead (codes "check" ∷ ws) m
 check_law [] m e = (check_taken, ap meaning_found check_read ∙ e)
 check_law (w ∷ ws) m e = cc
+
+powers_law : (ws : List Text) (m : Meaning) → alone meaning.Powers ws ≡ Some m → IsRead (codes "powers" ∷ ws) m
+powers_law [] m e = (powers_taken, ap meaning_found powers_read ∙ e)
+powers_law (w ∷ ws) m e = cc
 
 generic_law : (ws : List Text) (m : Meaning) → alone meaning.Generic ws ≡ Some m → IsRead (codes "generic" ∷ ws) m
 generic_law [] m e = (generic_taken, ap meaning_found generic_read ∙ e)
@@ -116,7 +120,8 @@ pub law_above : (w : Text) (ws : List Text) (m : Meaning) → (made ws ≡ Some 
 law_above w ws m make e =
     chosen w (codes "plain") ws (bytes_eq w (codes "plain")) _ _ m refl e (plain_law ws m) (λ e1.
     chosen w (codes "check") ws (bytes_eq w (codes "check")) _ _ m refl e1 (check_law ws m) (λ e2.
-    chosen w (codes "generic") ws (bytes_eq w (codes "generic")) _ _ m refl e2 (generic_law ws m) (λ e3.
-    chosen w (codes "list") ws (bytes_eq w (codes "list")) _ _ m refl e3 (list_law ws m) (λ e4.
-    chosen w (codes "sum") ws (bytes_eq w (codes "sum")) _ _ m refl e4 (sum_law ws m) (λ e5.
-    chosen w (codes "make") ws (bytes_eq w (codes "make")) _ _ m refl e5 make (λ e6. let b : ⊥ = cc in absurd b))))))
+    chosen w (codes "powers") ws (bytes_eq w (codes "powers")) _ _ m refl e2 (powers_law ws m) (λ e3.
+    chosen w (codes "generic") ws (bytes_eq w (codes "generic")) _ _ m refl e3 (generic_law ws m) (λ e4.
+    chosen w (codes "list") ws (bytes_eq w (codes "list")) _ _ m refl e4 (list_law ws m) (λ e5.
+    chosen w (codes "sum") ws (bytes_eq w (codes "sum")) _ _ m refl e5 (sum_law ws m) (λ e6.
+    chosen w (codes "make") ws (bytes_eq w (codes "make")) _ _ m refl e6 make (λ e7. let b : ⊥ = cc in absurd b)))))))

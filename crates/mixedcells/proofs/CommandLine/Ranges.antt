@@ -18,6 +18,7 @@ abbrev IsWithin : Meaning → Type 0
 IsWithin (meaning.Make f seed) = IsInLimits f
 IsWithin meaning.Plain = Unit {0}
 IsWithin meaning.Check = Unit {0}
+IsWithin meaning.Powers = Unit {0}
 IsWithin meaning.Generic = Unit {0}
 IsWithin (meaning.List n) = Unit {0}
 IsWithin (meaning.Sum n) = Unit {0}
@@ -101,10 +102,11 @@ within [] = tt
 within (w ∷ ws) =
     choice (bytes_eq w (codes "plain")) _ _ (alone_within meaning.Plain ws tt) (
     choice (bytes_eq w (codes "check")) _ _ (alone_within meaning.Check ws tt) (
+    choice (bytes_eq w (codes "powers")) _ _ (alone_within meaning.Powers ws tt) (
     choice (bytes_eq w (codes "generic")) _ _ (alone_within meaning.Generic ws tt) (
     choice (bytes_eq w (codes "list")) _ _ (list_within (searchers ws)) (
     choice (bytes_eq w (codes "sum")) _ _ (sum_within (searchers ws)) (
-    choice (bytes_eq w (codes "make")) _ _ (made_within (take (seed_place ws) ws) (drop (seed_place ws) ws)) tt)))))
+    choice (bytes_eq w (codes "make")) _ _ (made_within (take (seed_place ws) ws) (drop (seed_place ws) ws)) tt))))))
 
 fit_by : (o : Option Meaning) (c : Command) → IfSome o IsWithin → option_and_then built o ≡ Some c → IsFit c
 fit_by None c h e = cc
@@ -113,9 +115,11 @@ fit_by (Some m) (verb.List n) h e = tt
 fit_by (Some m) (verb.Sum n) h e = tt
 fit_by (Some m) verb.Check h e = tt
 fit_by (Some m) verb.Generic h e = tt
+fit_by (Some m) verb.Powers h e = tt
 fit_by (Some (meaning.Make g k)) (verb.Make f s) h e = let same : g ≡ f = cc in subst IsInLimits same h
 fit_by (Some meaning.Plain) (verb.Make f s) h e = cc
 fit_by (Some meaning.Check) (verb.Make f s) h e = cc
+fit_by (Some meaning.Powers) (verb.Make f s) h e = cc
 fit_by (Some meaning.Generic) (verb.Make f s) h e = cc
 fit_by (Some (meaning.List n)) (verb.Make f s) h e = cc
 fit_by (Some (meaning.Sum n)) (verb.Make f s) h e = cc

@@ -23,6 +23,14 @@ pub check_read : read (subcommand_of top (codes "check" ∷ [])) ≡ Some (read_
 unfolding clap_on_literals
 check_read = refl
 
+pub powers_taken : takes top (codes "powers" ∷ []) ≡ true
+unfolding clap_on_literals
+powers_taken = refl
+
+pub powers_read : read (subcommand_of top (codes "powers" ∷ [])) ≡ Some (read_searchers (codes "powers") None)
+unfolding clap_on_literals
+powers_read = refl
+
 pub generic_taken : takes top (codes "generic" ∷ []) ≡ true
 unfolding clap_on_literals
 generic_taken = refl

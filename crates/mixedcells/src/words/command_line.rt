@@ -67,11 +67,18 @@ fn plain_line<'a>(alloc: Global) -> Result<Command<'a>, AllocError>
         .subcommand(Command::new(alloc, "check"))
 }
 
+// The same and `powers`.
+fn powers_line<'a>(alloc: Global) -> Result<Command<'a>, AllocError>
+    ensures app { IfOk result (λ c. app_of c ≡ spec.powers_line) }
+{
+    plain_line(alloc)?.subcommand(Command::new(alloc, "powers"))
+}
+
 // The same and `generic`.
 fn generic_line<'a>(alloc: Global) -> Result<Command<'a>, AllocError>
     ensures app { IfOk result (λ c. app_of c ≡ spec.generic_line) }
 {
-    plain_line(alloc)?.subcommand(Command::new(alloc, "generic"))
+    powers_line(alloc)?.subcommand(Command::new(alloc, "generic"))
 }
 
 // The whole command line.

@@ -18,6 +18,7 @@ pub enum Meaning {
     /// `sum`, with this many searchers.
     Sum(u64),
     Check,
+    Powers,
     Generic,
     /// `make`, of this family and behind this seed.
     Make(Family, u64),

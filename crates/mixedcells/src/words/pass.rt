@@ -18,6 +18,7 @@ pub fn meaning(words: &[String]) -> Option<Meaning>
     match first.as_str() {
         "plain" => alone(Meaning::Plain, rest),
         "check" => alone(Meaning::Check, rest),
+        "powers" => alone(Meaning::Powers, rest),
         "generic" => alone(Meaning::Generic, rest),
         "list" => Some(Meaning::List(searchers(rest)?)),
         "sum" => Some(Meaning::Sum(searchers(rest)?)),

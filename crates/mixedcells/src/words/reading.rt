@@ -28,6 +28,7 @@ fn meaning_below(name: &str, matches: &ArgMatches) -> Option<Meaning>
     match name {
         "plain" => Some(Meaning::Plain),
         "check" => Some(Meaning::Check),
+        "powers" => Some(Meaning::Powers),
         "generic" => Some(Meaning::Generic),
         "list" => list(searchers_read(first_value(matches, "searchers"))),
         "sum" => sum(searchers_read(first_value(matches, "searchers"))),

@@ -5,7 +5,7 @@ use Rattle.mixedcells.specs.declared.words.Command.TheVariants.{Plain, Check, Ma
 use Rattle.mixedcells.proofs.CommandLine.Words.{no_reader, reader, same_team}
 use Rattle.mixedcells.proofs.CommandLine.Ranges.{fits}
 use Rattle.mixedcells.proofs.Ended.{appends_as, usage_cut, usage_written}
-use Rattle.mixedcells.proofs.Exact.{tie_other, cell_other, team_other, called_made, comes, makes, lists, ended_listed, ok_other, known}
+use Rattle.mixedcells.proofs.Exact.{tie_other, cell_other, team_other, called_made, comes, makes, lists, ended_listed, ended_powers, ok_other, known}
 use Rattle.mixedcells.proofs.AlongPaths as along
 use Rattle.mixedcells.proofs.Teams.{no_team, asked_for, usage_alone, meant_team, team_called, appends_none, no_other, no_walk, no_reading, walking_meant}
 use Rattle.mixedcells.proofs.Judged.{checked, judged, spares, plain_spared}
@@ -34,6 +34,12 @@ returns-in-Ok-clause-listing g c = λ bytes left means ok.
     let w = returns-in-Ok-clause-written g c (ok_other _ ok) in
     let l = ended_listed (map string_bytes c.args.words.now) _ bytes _ w.0 left means ok w.1 in
     (l.0, l.1, (w.0, l.2, w.2))
+
+pub returns-in-Ok-clause-powers : goal.returns-in-Ok-clause-powers
+returns-in-Ok-clause-powers g c = λ bytes left means ok.
+    let w = returns-in-Ok-clause-written g c (ok_other _ ok) in
+    let l = ended_powers (map string_bytes c.args.words.now) _ bytes _ w.0 left means ok w.1 in
+    (l.0, l.1, l.2, (w.0, l.3, w.2))
 
 pub returns-in-Ok-clause-written_listing : goal.returns-in-Ok-clause-written_listing
 returns-in-Ok-clause-written_listing g c = λ bytes left means ok.
