@@ -371,7 +371,7 @@ pub ended_listed : (words : List (List ℕ)) (left : Option (List ℕ)) (bytes :
 ended_listed words left bytes o t e means ok h = listed words bytes t means (subst (λ q. IsCalledFor words (Some bytes) q t) ok (known words left bytes o t e h))
 
 powers_text : (bytes t : List ℕ) → IsPowersReply bytes variant.Ok t → (listing : Listing) × IsListingText bytes listing × IsRight listing × IsPowersText listing t
-powers_text bytes t (inl h) = (h.0, h.1, (h.2.0, h.2.2))
+powers_text bytes t (inl h) = (h.0, h.1, h.2.0, h.2.2)
 powers_text bytes t (inr h) = absurd (let e = ap status_of h.2.0 in omega (arith, e))
 
 -- what `powers` that ended Ok has written

@@ -24,9 +24,9 @@ outcome_with r (Some line) = variant.No line 6
 abbrev IsNote : Listing → Answer → Option ℕ → Type 0
 IsNote listing (Ok Yes) None = HasNoFlat listing
 IsNote listing (Ok Yes) (Some line) = FirstFlat (plain_problem listing.file) listing.cells.items line
-IsNote listing (Ok (No line reason)) note = note ≡ None
-IsNote listing (Err (Overflow line)) note = note ≡ None
-IsNote listing (Err OutOfMemory) note = ⊥
+IsNote listing (Ok (No line reason)) flat = flat ≡ None
+IsNote listing (Err (Overflow line)) flat = flat ≡ None
+IsNote listing (Err OutOfMemory) flat = ⊥
 
 noted : (listing : Listing) (o : Outcome) (t : List ℕ) → IsRowsReply listing o t
     → (r : Answer) × (note : Option ℕ) × HadMemory r × IsAnswer listing r × IsNote listing r note × (o ≡ outcome_with r note)
