@@ -201,20 +201,20 @@ fn too_many_choices(rt: HostRuntime) -> Result<(), Fail> {
 
 // Supports of so many file points and one corner more than the dimension, with the numbers of the
 // points one after the other.
-fn path(alloc: Global, dim: usize, files: u32, numbers: &[i64]) -> Result<Vec<Support>, Fail> {
+fn path(alloc: Global, dim: u32, files: u32, numbers: &[i64]) -> Result<Vec<Support>, Fail> {
     let mut supports = Vec::new(alloc);
     let mut start: usize = 0;
     for _i in 0..dim {
         let mut points = Vec::new(alloc);
-        for k in 0..files.saturating_add(dim as u32).saturating_add(1) {
-            let FilePoint { coords, height } = point(alloc, dim, numbers, start)?;
+        for k in 0..files.saturating_add(dim).saturating_add(1) {
+            let FilePoint { coords, height } = point(alloc, dim as usize, numbers, start)?;
             let speed = if k < files { 0 } else { 1 };
             points.push(Point {
                 coords,
                 base: height,
                 speed,
             })?;
-            start = start.saturating_add(dim).saturating_add(1);
+            start = start.saturating_add(dim as usize).saturating_add(1);
         }
         supports.push(Support {
             points,
@@ -263,12 +263,16 @@ fn ties_of_worked_paths(rt: HostRuntime) -> Result<(), Fail> {
         1, 9, 1, 1, 1, 0, 0, 0, 2, 0, 100, 0, 2, 0,
     ];
     let two_points = [0, 7, 1, 7, 0, 0, 1, 0];
-    let table: [(usize, u32, &[i64], &[i128]); 2] = [
+    let table: [(u32, u32, &[i64], &[i128]); 2] = [
         (2, 4, &squares, &[]),
         (1, 2, &two_points, &[1, 2, 7, 1, 1, 3, 1, 4]),
     ];
     for (dim, files, numbers, want) in table {
-        let problem = Problem::new(rt.alloc(), dim, path(rt.alloc(), dim, files, numbers)?)?;
+        let problem = Problem::new(
+            rt.alloc(),
+            dim as usize,
+            path(rt.alloc(), dim, files, numbers)?,
+        )?;
         assert!(rt; tie_of(rt.alloc(), &problem)?.as_slice() == want);
     }
     let problem = Problem::perturbed(rt.alloc(), 1, path(rt.alloc(), 1, 2, &two_points)?)?;
