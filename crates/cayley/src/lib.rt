@@ -17,6 +17,7 @@ mod reaches;
 mod rows;
 mod second_heights;
 mod shapes;
+mod trace;
 mod versions;
 
 pub use cells::Cell;
@@ -26,6 +27,7 @@ pub use found::{Begin, FoundCell, Normal, Place, Sign, TieProof};
 pub use limits::{COORDINATE, CORNER, DIMENSIONS, HEIGHT, POINTS};
 pub use points::{FilePoint, Point, Support};
 pub use problems::Problem;
+pub use trace::{Trace, TraceNode};
 pub use versions::Version;
 
 #[cfg(test)]
