@@ -110,6 +110,25 @@ walk_ok W file valid safe fits variant.TooLong t h = absurd h
 walk_ok W file valid safe fits (variant.TooMany choices) t h = absurd h
 walk_ok W file valid safe fits variant.NeedsTeam t h = absurd h
 
+tie_or_none : (file : File) (o : Outcome) (t : List ℕ) → IsTieReply file o t → ¬ (HasTooMany (path file)) → AllFit (path file) → (o ≡ variant.Ok) ⊎ ((proof : TieProof) × (o ≡ variant.Tie proof))
+tie_or_none file variant.Ok t h many fit = inl refl
+tie_or_none file (variant.Tie proof) t h many fit = inr (proof, refl)
+tie_or_none file (variant.TooMany choices) t h many fit = absurd (many h.1)
+tie_or_none file (variant.OverflowCell cell) t h many fit = absurd (h.3 (fit cell h.2.0.0))
+tie_or_none file (variant.No line reason) t h many fit = absurd h
+tie_or_none file variant.Usage t h many fit = absurd h
+tie_or_none file (variant.Format line kind) t h many fit = absurd h
+tie_or_none file (variant.OverflowLine line) t h many fit = absurd h
+tie_or_none file variant.ReadFault t h many fit = absurd h
+tie_or_none file variant.WriteFault t h many fit = absurd h
+tie_or_none file variant.OutOfMemory t h many fit = absurd h
+tie_or_none file variant.TooLong t h many fit = absurd h
+tie_or_none file variant.NeedsTeam t h many fit = absurd h
+
+or_free : {P Q F : Type 0} → P ⊎ Q → P ⊎ Q ⊎ F
+or_free (inl p) = inl p
+or_free (inr q) = inr (inl q)
+
 -- ---- runs
 module _ (words : List (List ℕ)) (bytes : List ℕ) where
   list_reply : (n : ℕ) (o : Outcome) (t : List ℕ) → nat_le 2 n ≡ false → Means words (verb.List n) → (status_of o ≡ 9 → ⊥) → IsCalledFor words (Some bytes) o t → IsFileReply (IsWalkReply IsReachedListing) bytes o t
@@ -187,3 +206,12 @@ module _ (words : List (List ℕ)) (bytes : List ℕ) where
   tie_free file left o t e means f ok h =
       let k = subst (λ q. IsCalledFor words (Some bytes) q t) ok (known words left bytes o t e h) in
       inr (said_of IsTieReply bytes file variant.Ok t f (reply_not_long verb.Generic bytes variant.Ok t (λ g. omega (arith, g)) (answer_of words bytes verb.Generic variant.Ok t means k))).2
+
+  -- `generic` on few choices whose workings fit finds a tie or none, unless a free answer comes
+  pub judged_ties : (file : File) (result : Outcome) → length bytes ≤ limit → Means words verb.Generic → problem_of bytes ≡ Ok file → ¬ (HasTooMany (path file)) → AllFit (path file)
+      → (¬ (IsFree result) → (t : List ℕ) × IsCalledFor words (Some bytes) result t) → (result ≡ variant.Ok) ⊎ ((proof : TieProof) × (result ≡ variant.Tie proof)) ⊎ IsFree result
+  judged_ties file result short means f many fit called = elim (free_or result) [
+    | inl free ↦ inr (inr free)
+    | inr other ↦ let k = called other in
+        or_free (tie_or_none file result k.0 (said_of IsTieReply bytes file result k.0 f (reply_of verb.Generic bytes result k.0 short (answer_of words bytes verb.Generic result k.0 means k.1))) many fit)
+  ]

@@ -5,7 +5,7 @@ pub mod Checks
 pub mod Powered
 pub mod Exact
 pub mod Listings
-pub mod Counted
+pub mod FileWorkings
 pub mod Spared
 pub mod Judged
 pub mod Walking

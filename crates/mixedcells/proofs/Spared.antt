@@ -1,6 +1,7 @@
 -- A listing as a lister wrote it is read back, and `check` spares it.
-use Rattle.std.proofs.Common.{◌≡◌, ℕ, suc, ◌-◌, ◌^◌, ◌<◌, ◌≤◌, ◌∙◌, ℤ, pos, neg_ℤ, ◌≤ℤ◌, ◌<ℤ◌, List, [], ◌∷◌, map, length, Ok, Err, refl, sym, ap, subst, arith, inl, inr}
+use Rattle.std.proofs.Common.{◌≡◌, ℕ, suc, ◌-◌, ◌^◌, ◌<◌, ◌≤◌, ◌∙◌, ℤ, pos, neg_ℤ, ◌≤ℤ◌, ◌<ℤ◌, List, [], ◌∷◌, ◌++◌, map, length, Ok, Err, refl, sym, ap, subst, arith, inl, inr, codes, length-append}
 use Rattle.std.specs.Prelude.{Contains, unsigned_abs}
+use Rattle.std.specs.List.{join_with_byte}
 use Rattle.std.proofs.lemmas.Int.{ints}
 use Rattle.std.proofs.lemmas.List.{length-map}
 use Rattle.wide_int.specs.Whole.{FitsWhole}
@@ -11,12 +12,18 @@ use Rattle.cayley.specs.Cells.{Cell, IsOf, EachPair, IsFurther, IsSorted}
 use Rattle.cayley.specs.Normals.{Normal, IsNormal}
 use Rattle.cayley.specs.Mixed.{IsAlive, IsMixedCell, IsLowestNormal, HasFirstEntries}
 use Rattle.cayley.specs.Files.{File, FilePoint, resting, plain_problem}
+use Rattle.cayley.specs.Paths.{path}
 use Rattle.cayley.specs.Valid.{IsValidFile}
 use Rattle.cayley.specs.declared.found.FoundCell.{FoundCell}
 use Rattle.cayley.proofs.OneCell.CellNormals.{length-scale}
 use Rattle.cayley.proofs.Lists.Each.{map_map, each_unmap, each_weaker}
 use Rattle.cayley.proofs.OneCell.PlainProblems.{plain_of}
 use Rattle.cayley.proofs.OneCell.Unperturbed.{same_of}
+use Rattle.searcher.specs.Workings.{FitsWorking}
+use Rattle.support_text.specs.Words.{Text, text_of}
+use Rattle.support_text.specs.ProblemText.{problem_of}
+use Rattle.support_text.specs.Writing.{problem_lines}
+use Rattle.listing_text.specs.Writing.{cell_words, cells_lines, listing_lines, listing_text}
 use Rattle.listing_text.specs.declared.listing.Listing.{Listing}
 use Rattle.listing_text.specs.declared.listing.ListedCell.{ListedCell}
 use Rattle.listing_text.specs.ListingText.{Listed, counts_of, listing_of}
@@ -44,11 +51,13 @@ use Rattle.cell_certificate.proofs.WrittenLines.{written_spared}
 use Rattle.mixedcells.specs.declared.outcome.Outcome.{Outcome}
 use Rattle.mixedcells.specs.declared.outcome.Outcome.TheVariants as variant
 use Rattle.mixedcells.specs.Outcomes.{status_of}
-use Rattle.mixedcells.specs.Answers.{IsPlainReply, IsListingText, IsCheckReply}
-use Rattle.mixedcells.specs.Runs.{IsWrittenListing, IsSpared}
+use Rattle.mixedcells.specs.Walks.{AreReachedCells, IsReachedListing}
+use Rattle.mixedcells.specs.Answers.{limit, IsPlainReply, IsListingText, IsCheckReply}
+use Rattle.mixedcells.specs.Runs.{AreWrittenCells, IsWrittenListing, IsSpared}
 use Rattle.mixedcells.proofs.Readings.{ok_once, not_both}
 use Rattle.mixedcells.proofs.Checks.{outcome_of, verdict_answer, read_of, are_listed}
-use Rattle.mixedcells.proofs.Counted.{few_cells}
+use Rattle.mixedcells.proofs.FileWorkings.{plain_fits}
+use Rattle.mixedcells.proofs.Walking.{points_same}
 
 -- ---- workings
 
@@ -115,50 +124,75 @@ module _ (file : File) (valid : IsValidFile file) where
       }
 
   each_formed : (found : List FoundCell) → Each found (λ (x : FoundCell). IsMixedCell (plain_problem file) x.cell)
-      → Each found (λ (x : FoundCell). IsLowestNormal (plain_problem file) x.cell x.normal.v x.normal.den) → AllFit (plain_problem file) → Each found (IsFormed (counts_of file))
+      → Each found (λ (x : FoundCell). IsLowestNormal (plain_problem file) x.cell x.normal.v x.normal.den) → Each found (λ (x : FoundCell). FitsWallWorking (plain_problem file) x.cell)
+      → Each found (IsFormed (counts_of file))
   each_formed [] m n fit = tt
-  each_formed (x ∷ found) m n fit =
-      let of = (subst (λ q. IsAlive q x.cell time_zero) (own_points file valid) m.0).0 in
-      (cell_formed x m.0 n.0 (fit x.cell of), each_formed found m.1 n.1 fit)
+  each_formed (x ∷ found) m n fit = (cell_formed x m.0 n.0 fit.0, each_formed found m.1 n.1 fit.1)
 
-  each_working : (lines : List ListedCell) → Each lines (λ x. IsMixedCell (plain_problem file) x.cell) → AllFit (plain_problem file)
+  each_working : (lines : List ListedCell) → Each lines (λ x. IsMixedCell (plain_problem file) x.cell) → Each lines (λ x. FitsWallWorking (plain_problem file) x.cell)
       → Each lines (λ x. written.FitsWritten (plain_problem file) x.cell)
   each_working [] m fit = tt
   each_working (x ∷ lines) m fit =
       let of = (subst (λ q. IsAlive q x.cell time_zero) (own_points file valid) m.0).0 in
-      (fits_working (plain_problem file) x.cell (valid_of file valid).shape.problem of (fit x.cell of), each_working lines m.1 fit)
+      (fits_working (plain_problem file) x.cell (valid_of file valid).shape.problem of fit.0, each_working lines m.1 fit.1)
 
--- ---- what `plain` wrote
+-- ---- what a lister wrote
 
-each_of_problem : (file : File) → IsValidFile file → (found : List FoundCell) → Each found (λ (x : FoundCell). IsMixedCell (plain_problem file) x.cell) → Each (map (λ (x : FoundCell). x.cell) found) (IsOf (plain_problem file))
-each_of_problem file valid [] m = tt
-each_of_problem file valid (x ∷ found) m =
-    ((subst (λ q. IsAlive q x.cell time_zero) (own_points file valid) m.0).0, each_of_problem file valid found m.1)
+-- the cells that `plain` found
+plain_cells : (file : File) → IsValidFile file → (found : List FoundCell) → AreMixedCells file found → AllFit (plain_problem file) → AreWrittenCells file found
+plain_cells file valid found m fit =
+    let mixed = each_mixed file found m in
+    record {
+      sorted = m.cells.0;
+      cells = mixed;
+      normals = m.normals;
+      workings = each_weaker (λ (x : FoundCell). IsMixedCell (plain_problem file) x.cell) (λ (x : FoundCell). FitsWallWorking (plain_problem file) x.cell) found
+          (λ x a. fit x.cell (subst (λ q. IsAlive q x.cell time_zero) (own_points file valid) a).0) mixed;
+    }
 
-pub plain_written : (input bytes : List ℕ) → IsPlainReply input variant.Ok bytes → IsWrittenListing bytes
+pub plain_written : (input bytes : List ℕ) → IsPlainReply input variant.Ok bytes → (file : File) × (problem_of input ≡ Ok file) × IsWrittenListing file bytes
 plain_written input bytes (inl h) =
     let file = h.0 in
     let found = h.2.2.0 in
-    let mixed = h.2.2.1 in
-    let of = each_of_problem file (meant_valid input file h.1) found (each_mixed file found mixed) in
-    let few = few_cells (plain_problem file) (map (λ (x : FoundCell). x.cell) found) h.2.0 of mixed.cells.0 in
-    let size = length-map found (λ (x : FoundCell). x.cell) in
-    (input, file, found, h.1, h.2.1, mixed, omega (arith, few, size), h.2.2.2)
+    (file, h.1, (input, found, h.1, plain_cells file (meant_valid input file h.1) found h.2.2.1 h.2.1, h.2.2.2))
 plain_written input bytes (inr h) = absurd (let e = ap status_of h.2.0 in omega (arith, e))
+
+-- the cells that `list` found
+module _ (file : File) (valid : IsValidFile file) where
+  all_plain_fit : (found : List FoundCell) → Each found (λ (x : FoundCell). IsMixedCell (path file) x.cell) → Each found (λ (x : FoundCell). FitsWorking (path file) x.cell)
+      → Each found (λ (x : FoundCell). FitsWallWorking (plain_problem file) x.cell)
+  all_plain_fit [] m w = tt
+  all_plain_fit (x ∷ found) m w = (plain_fits file valid x.cell m.0.0 w.0, all_plain_fit found m.1 w.1)
+
+  reached_cells : (found : List FoundCell) → AreReachedCells file found → AreWrittenCells file found
+  reached_cells found r =
+      let P = IsMixedCell (path file) in
+      let mixed = each_unmap (λ (x : FoundCell). x.cell) P found (each_contained P (map (λ (x : FoundCell). x.cell) found) (λ cell c. ((r.cells.1 cell).0 c).1)) in
+      record {
+        sorted = r.cells.0;
+        cells = each_weaker (λ (x : FoundCell). IsMixedCell (path file) x.cell) (λ (x : FoundCell). IsMixedCell (plain_problem file) x.cell) found
+            (λ x a. subst (λ q. IsAlive q x.cell time_zero) (points_same file valid) a) mixed;
+        normals = r.normals;
+        workings = all_plain_fit found mixed r.workings;
+      }
+
+pub reached_written : (input bytes : List ℕ) (file : File) → problem_of input ≡ Ok file → IsReachedListing file bytes → IsWrittenListing file bytes
+reached_written input bytes file e l = (input, l.0, e, reached_cells file (meant_valid input file e) l.0 l.1, l.2)
 
 -- ---- the listing that is read back
 
-is_written : (listing : Listing) → IsValidFile listing.file → AreMixedCells listing.file (map found_of listing.cells.items) → AllFit (plain_problem listing.file) → IsWritten listing
-is_written listing valid m fit =
+is_written : (listing : Listing) → IsValidFile listing.file → AreWrittenCells listing.file (map found_of listing.cells.items) → IsWritten listing
+is_written listing valid w =
+    let p = plain_problem listing.file in
     let lines = listing.cells.items in
-    let mixed = each_unmap found_of (λ (x : FoundCell). IsMixedCell (plain_problem listing.file) x.cell) lines (each_mixed listing.file (map found_of lines) m) in
+    let mixed = each_unmap found_of (λ (x : FoundCell). IsMixedCell p x.cell) lines w.cells in
     record {
       mixed = record {
-        sorted = subst IsSorted (map_map (λ (x : FoundCell). x.cell) found_of lines) m.cells.0;
+        sorted = subst IsSorted (map_map (λ (x : FoundCell). x.cell) found_of lines) w.sorted;
         cells = mixed;
-        normals = each_unmap found_of (λ (x : FoundCell). IsLowestNormal (plain_problem listing.file) x.cell x.normal.v x.normal.den) lines m.normals;
+        normals = each_unmap found_of (λ (x : FoundCell). IsLowestNormal p x.cell x.normal.v x.normal.den) lines w.normals;
       };
-      workings = each_working listing.file valid lines mixed fit;
+      workings = each_working listing.file valid lines mixed (each_unmap found_of (λ (x : FoundCell). FitsWallWorking p x.cell) lines w.workings);
     }
 
 spared_answer : (bytes : List ℕ) (listing : Listing) → IsListingText bytes listing → (r : Answer) → HadMemory r → SparesWritten listing r → (o : Outcome) → o ≡ outcome_of r → IsSpared bytes o
@@ -167,31 +201,46 @@ spared_answer bytes listing text (Ok (No line reason)) m s o e = absurd s
 spared_answer bytes listing text (Err (Overflow line)) m s o e = inr (inl (listing, line, text, s, e))
 spared_answer bytes listing text (Err OutOfMemory) m s o e = absurd m
 
-module _ (bytes : List ℕ) (w : IsWrittenListing bytes) where
-  abbrev file : File
-  file = w.1
+-- each line takes a byte
+lines_long : (lines : List (List Text)) → length lines ≤ length (text_of lines)
+lines_long [] = omega arith
+lines_long (ws ∷ lines) =
+    let a = lines_long lines in
+    let b = length-append (join_with_byte 32 ws ++ 10 ∷ []) (text_of lines) in
+    let c = length-append (join_with_byte 32 ws) (10 ∷ []) in
+    omega (arith, a, b, c)
 
+found_few : (file : File) (found : List FoundCell) → length found ≤ length (listing_text file found)
+found_few file found =
+    let a = lines_long (listing_lines file found) in
+    let b = length-append (problem_lines file) (cells_lines found) in
+    let c = length-append (map cell_words found) ((codes "end" ∷ []) ∷ []) in
+    let d = length-map found cell_words in
+    omega (arith, a, b, c, d)
+
+module _ (bytes : List ℕ) (file : File) (w : IsWrittenListing file bytes) (short : length bytes ≤ limit) where
   abbrev found : List FoundCell
-  found = w.2
+  found = w.1
 
   valid : IsValidFile file
-  valid = meant_valid w.0 file w.3
+  valid = meant_valid w.0 file w.2
 
   formed : Each found (IsFormed (counts_of file))
-  formed = each_formed file valid found (each_mixed file found w.5) w.5.normals w.4
+  formed = each_formed file valid found w.3.cells w.3.normals w.3.workings
+
+  few : length found ≤ 4294967295
+  few = let a = found_few file found in let e = ap length w.4 in omega (arith, short, a, e)
 
   -- the bytes mean the file and these cells
   back : (listed : List ListedCell) × (listing_of bytes ≡ Ok (file, listed)) × (map found_of listed ≡ found)
-  back = let b = listing_back file found valid formed w.6 in (b.0, ap listing_of w.7 ∙ b.1, b.2)
+  back = let b = listing_back file found valid formed few in (b.0, ap listing_of w.4 ∙ b.1, b.2)
 
   spared_listing : (listing : Listing) → IsListingText bytes listing → IsWritten listing
   spared_listing listing e =
       let b = back in
       let same : (file, b.0) ≡ read_of listing = ok_once (listing_of bytes) (file, b.0) (read_of listing) b.1 e in
-      let mixed : AreMixedCells file (map found_of b.0) = subst (AreMixedCells file) (sym b.2) w.5 in
       is_written listing (listing_formed bytes listing.file listing.cells.items e).0
-      (subst (λ (x : Listed). AreMixedCells x.0 (map found_of x.1)) same mixed)
-      (subst (λ (x : Listed). AllFit (plain_problem x.0)) same w.4)
+      (subst (λ (x : Listed). AreWrittenCells x.0 (map found_of x.1)) same (subst (AreWrittenCells file) (sym b.2) w.3))
 
   pub spared : (o : Outcome) (t : List ℕ) → IsCheckReply bytes o t → IsSpared bytes o
   spared o t (inl h) =

@@ -26,6 +26,7 @@ use Rattle.searcher.specs.declared.expansions.HaltCause.TheVariants.{Tie, Overfl
 use Rattle.searcher.specs.declared.searching.Found.{Found}
 use Rattle.searcher.specs.declared.searching.Stopped.{Stopped}
 use Rattle.searcher.specs.Expansions.{HasLowestNormal, ShowsTieAtEnd, HasNoTie}
+use Rattle.searcher.specs.Workings.{FitsWorking}
 use Rattle.searcher.specs.Branches.{branch_of}
 use Rattle.searcher.specs.Searches.{IsFound, IsStopped, IsLeft, IsOfLeft, FindsShare, FindsSize}
 use Rattle.listing_text.specs.Listings.{AreMixedCells}
@@ -70,12 +71,13 @@ module _ (p : Problem) (well : IsProblem p) (s : IsSearched p) (given : List Bra
       let l = subst (λ (g : List Branch). Contains (map branch_of g) h.1.0) alone h.1.1 in
       (no_parent, subst (λ (x : shares.Branch). InChain p x.cell b.cell) (sym (only (start_branch p) h.1.0 l)) h.1.2)
 
-  pub walked : (found : Found) → IsFound p given found → FindsShare p given found → FindsSize p given found → IsWalked p found
-  walked found f share size =
+  pub walked : (found : Found) → IsFound p given found → FindsShare p given found → FindsSize p given found → Each found.cells.items (λ x. FitsWorking p x.cell) → IsWalked p found
+  walked found f share size fit =
       let n = a_size p well (start_branch p) in
       record {
         cells = share (start p) alone;
         normals = f.normals;
+        workings = fit;
         tree = (n.0, (s.size n.0).0 n.1, size (start p) n.0 alone n.1 (size_some p (start_branch p) n.0 n.1 s.early.0));
       }
 
@@ -101,7 +103,7 @@ module _ (file : File) (valid : IsValidFile file) where
   pub path_searched : IsSearched (path file)
   path_searched = (path_law file valid).3
 
-  points_same : file_points (path file) ≡ file_points (plain_problem file)
+  pub points_same : file_points (path file) ≡ file_points (plain_problem file)
   points_same = (path_law file valid).2 ∙ sym (own_points file valid)
 
   lowest_plain : (x : FoundCell) → HasLowestNormal (path file) x → IsLowestNormal (plain_problem file) x.cell x.normal.v x.normal.den
@@ -113,6 +115,7 @@ module _ (file : File) (valid : IsValidFile file) where
       record {
         cells = record {
           cells = v.cells;
+          workings = v.workings;
           normals = each_weaker (HasLowestNormal (path file)) (λ (x : FoundCell). IsLowestNormal (plain_problem file) x.cell x.normal.v x.normal.den) found.cells.items lowest_plain v.normals;
         };
         tree = v.tree;

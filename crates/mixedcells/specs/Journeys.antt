@@ -24,10 +24,11 @@ use Rattle.mixedcells.specs.Walks.{AreReachedCells, IsTreeTie, IsTreeUnfit, top_
 abbrev pub CountsTree : Problem → ℕ → Type 0
 CountsTree p solves = (tree : ℕ) × IsTreeSize p tree × (solves ≡ min tree top_count)
 
--- of a path: the share of its start branch, with the normals in lowest terms, and the size of its tree
+-- of a path: the share of its start branch, with the normals in lowest terms and workings that fit, and the size of its tree
 pub record IsWalked (p : Problem) (found : Found) : Type 0 where
   pub cells : IsShare p (start_branch p) (map (λ (x : FoundCell). x.cell) found.cells.items)
   pub normals : Each found.cells.items (HasLowestNormal p)
+  pub workings : Each found.cells.items (λ x. FitsWorking p x.cell)
   pub tree : CountsTree p found.solves
 
 -- of a path: a tie at an end of a cell of its tree, which has one then; or a cell of its tree whose working doesn't fit

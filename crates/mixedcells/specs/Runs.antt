@@ -1,17 +1,18 @@
 -- How a run ends, and what stands in the source and the sink then.
-use Rattle.std.specs.Prelude.{◌≡◌, ◌⊎◌, ◌+◌, ◌<◌, ◌≤◌, ℕ, List, length, take, Option, Some, None, Ok, IsTrue}
+use Rattle.std.specs.Prelude.{◌≡◌, ◌⊎◌, ◌+◌, ◌<◌, ◌≤◌, ℕ, List, length, map, take, Option, Some, None, Ok, IsTrue}
 use Rattle.std.specs.Io.KnownBytes.{Appends, Consumes}
 use Rattle.edge_io.specs.Faults.{Rose}
 use Rattle.cayley.specs.Files.{File, plain_problem}
-use Rattle.cayley.specs.Cells.{Cell}
+use Rattle.int_vectors.specs.Vectors.{Each}
+use Rattle.cayley.specs.Cells.{Cell, IsSorted}
+use Rattle.cayley.specs.Mixed.{IsMixedCell, IsLowestNormal}
 use Rattle.cayley.specs.declared.found.FoundCell.{FoundCell}
 use Rattle.cayley.specs.declared.found.TieProof.{TieProof}
 use Rattle.support_text.specs.ProblemText.{problem_of}
 use Rattle.listing_text.specs.declared.listing.Listing.{Listing}
-use Rattle.listing_text.specs.Listings.{AreMixedCells}
 use Rattle.listing_text.specs.Writing.{listing_text}
 use Rattle.cell_certificate.specs.Written.{IsOwnTooLarge}
-use Rattle.plain_lister.specs.Lists.{AllFit}
+use Rattle.cone_walls.specs.Workings.{FitsWallWorking}
 use Rattle.mixedcells.specs.declared.words.Command.{Command}
 use Rattle.mixedcells.specs.declared.words.Command.TheVariants as verb
 use Rattle.mixedcells.specs.declared.outcome.Outcome.{Outcome}
@@ -72,11 +73,17 @@ Finishes old new before now text outcome result =
 abbrev pub IsVerdict : Outcome → Type 0
 IsVerdict outcome = (outcome ≡ variant.Ok) ⊎ ((line : ℕ) × (reason : ℕ) × (outcome ≡ variant.No line reason))
 
--- the bytes are the listing of a file whose workings fit, as `plain` writes it, with no more cells than a listing can count
-abbrev pub IsWrittenListing : List ℕ → Type 0
-IsWrittenListing bytes = (input : List ℕ) × (file : File) × (found : List FoundCell)
-    × (problem_of input ≡ Ok file) × AllFit (plain_problem file) × AreMixedCells file found
-    × (length found ≤ 4294967295) × (bytes ≡ listing_text file found)
+-- mixed cells of the file's points, each once, in cell order, each with its normal in lowest terms and a working that fits
+pub record AreWrittenCells (file : File) (found : List FoundCell) : Type 0 where
+  pub sorted : IsSorted (map (λ (x : FoundCell). x.cell) found)
+  pub cells : Each found (λ (x : FoundCell). IsMixedCell (plain_problem file) x.cell)
+  pub normals : Each found (λ (x : FoundCell). IsLowestNormal (plain_problem file) x.cell x.normal.v x.normal.den)
+  pub workings : Each found (λ (x : FoundCell). FitsWallWorking (plain_problem file) x.cell)
+
+-- the bytes are the text of a file that was read with such cells, as `plain` and `list` write it
+abbrev pub IsWrittenListing : File → List ℕ → Type 0
+IsWrittenListing file bytes = (input : List ℕ) × (found : List FoundCell)
+    × (problem_of input ≡ Ok file) × AreWrittenCells file found × (bytes ≡ listing_text file found)
 
 -- every line passes, or the sum of a pair's own second point doesn't fit, or the listing is longer than what is read
 abbrev pub IsSpared : List ℕ → Outcome → Type 0

@@ -40,10 +40,11 @@ IsSafe file = (file.version ≡ version2) ⊎ IsTieFree (path file)
 abbrev pub AreReached : File → List Cell → Type 0
 AreReached file cells = IsShare (path file) (start_branch (path file)) cells
 
--- the same cells, each with its normal in lowest terms
+-- the same cells, each with its normal in lowest terms and a working that fits
 pub record AreReachedCells (file : File) (found : List FoundCell) : Type 0 where
   pub cells : AreReached file (map (λ (x : FoundCell). x.cell) found)
   pub normals : Each found (λ (x : FoundCell). IsLowestNormal (plain_problem file) x.cell x.normal.v x.normal.den)
+  pub workings : Each found (λ (x : FoundCell). FitsWorking (path file) x.cell)
 
 -- the bytes are the file's text with these cells
 abbrev pub IsReachedListing : File → List ℕ → Type 0

@@ -6,6 +6,7 @@ ghost use Rattle.edge_io.specs.Reading.{Stops};
 ghost use Rattle.cayley.specs.Cells.{Cell};
 ghost use Rattle.cayley.specs.declared.found.TieProof.{TieProof};
 ghost use Rattle.cayley.specs.Files.{File, plain_problem};
+ghost use Rattle.cayley.specs.Paths.{path};
 ghost use Rattle.support_text.specs.ProblemText.{problem_of};
 ghost use Rattle.support_text.specs.Writing.{problem_text};
 ghost use Rattle.listing_text.specs.declared.listing.Listing.{Listing};
@@ -64,11 +65,13 @@ pub fn run_alone<S: Source, K: Sink>(
     ensures judged { (bytes : List ℕ) (listing : Listing) → S.left source.old ≡ Some bytes → length bytes ≤ 16777216
         → Means (map string_bytes words.now) Command.Check → IsListingText bytes listing → ((line : ℕ) → ¬ (IsTooLarge listing line))
         → IsVerdict result ⊎ IsFree result }
-    // What `plain` that ends Ok has written is a written listing, of which the next clause speaks.
+    // What `plain` or `list` that ends Ok has written is a written listing, of which the last of these three clauses speaks.
     ensures written_listing { (bytes : List ℕ) → S.left source.old ≡ Some bytes → Means (map string_bytes words.now) Command.Plain → result ≡ Outcome.Ok
-        → (text : List ℕ) × IsWrittenListing text × Appends (K.held sink.old) (K.held sink.new) text }
+        → (file : File) × (problem_of bytes ≡ Ok file) × ((text : List ℕ) × IsWrittenListing file text × Appends (K.held sink.old) (K.held sink.new) text) }
+    ensures written_reached { (bytes : List ℕ) → S.left source.old ≡ Some bytes → Means (map string_bytes words.now) (Command.List 1) → result ≡ Outcome.Ok
+        → (file : File) × (problem_of bytes ≡ Ok file) × ((text : List ℕ) × IsWrittenListing file text × Appends (K.held sink.old) (K.held sink.new) text) }
     // `check` never refuses a written listing for a reason, and for a number only at a pair's own second point.
-    ensures spares { (bytes : List ℕ) → S.left source.old ≡ Some bytes → Means (map string_bytes words.now) Command.Check → IsWrittenListing bytes
+    ensures spares { (bytes : List ℕ) (file : File) → S.left source.old ≡ Some bytes → Means (map string_bytes words.now) Command.Check → IsWrittenListing file bytes
         → IsSpared bytes result ⊎ IsFree result }
     // `list` that ends Ok on a file of perturbed heights, or whose path has no tie, has written exactly the listing of the file.
     ensures headline { (bytes : List ℕ) (file : File) → S.left source.old ≡ Some bytes → Means (map string_bytes words.now) (Command.List 1)
@@ -91,6 +94,10 @@ pub fn run_alone<S: Source, K: Sink>(
     // It ends well where the heights are perturbed or the path has no tie, and the working of each cell of the path tree fits.
     ensures walked { (bytes : List ℕ) (file : File) → S.left source.old ≡ Some bytes → length bytes ≤ 16777216 → IsWalking (map string_bytes words.now)
         → problem_of bytes ≡ Ok file → IsSafe file → TreeFits file → (result ≡ Outcome.Ok) ⊎ IsFree result }
+    // `generic` finds a tie or none where the path has few choices and all workings up to the wall lines fit.
+    ensures judged_ties { (bytes : List ℕ) (file : File) → S.left source.old ≡ Some bytes → length bytes ≤ 16777216
+        → Means (map string_bytes words.now) Command.Generic → problem_of bytes ≡ Ok file
+        → ¬ (HasTooMany (path file)) → AllFit (path file) → (result ≡ Outcome.Ok) ⊎ ((proof : TieProof) × (result ≡ Outcome.Tie proof)) ⊎ IsFree result }
     // `generic` that ends Ok shows that the path has no tie.
     ensures tie_free { (bytes : List ℕ) (file : File) → S.left source.old ≡ Some bytes → Means (map string_bytes words.now) Command.Generic
         → problem_of bytes ≡ Ok file → result ≡ Outcome.Ok → IsSafe file }

@@ -1,10 +1,12 @@
 // The walk of one searcher along the path of a file.
 ghost use Rattle.std.specs.Prelude.{◌≡◌, ◌<◌, ◌∷◌, [], IfOk, IfErr, MatchResult};
+ghost use Rattle.int_vectors.specs.Vectors.{Each};
 ghost use Rattle.cayley.specs.Problems.{IsStill};
 ghost use Rattle.cayley.specs.Paths.{start_cell};
 ghost use Rattle.cayley.specs.Ties.{IsTieFree};
 ghost use Rattle.start_system.specs.Started.{IsStarted, IsSearched};
 ghost use Rattle.searcher.specs.Expansions.{ShowsTieAtEnd, HasNoTie};
+ghost use Rattle.searcher.specs.Workings.{FitsWorking};
 ghost use Rattle.searcher.specs.Searches.{IsFound, IsStopped, FindsShare, FindsSize};
 ghost use Rattle.mixedcells.specs.Journeys.{IsWalked, IsHalted, HasWalked, HasHalted};
 
@@ -42,6 +44,7 @@ fn search_by<L: Ledger>(
     ensures answer { MatchResult result (IsFound problem.now branches.items) (IsStopped problem.now branches.items) }
     ensures share { IfOk result (FindsShare problem.now branches.items) }
     ensures size { IfOk result (FindsSize problem.now branches.items) }
+    ensures fit { IfOk result (λ f. Each f.cells.items (λ x. FitsWorking problem.now x.cell)) }
     ensures tie { IfErr result (λ s. ShowsTieAtEnd problem.now s.cause) }
     ensures untied { IsTieFree problem.now → IfErr result (λ s. HasNoTie s.cause) }
 {

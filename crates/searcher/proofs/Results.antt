@@ -39,9 +39,10 @@ all_found p given left found sorted none moved keeps share gives =
     (keeps_end share (branches_of given) (cells_of found) (subst (λ l. Keeps share (branches_of given) (cells_of found) l) (ap branches_of none) (keeps share gives)))
     (IsPermutation-map (λ (f : FoundCell). f.cell) found sorted moved)
 
-pub normals_sorted : (p : Problem) (found sorted : List FoundCell) → IsPermutation found sorted → Each found (HasLowestNormal p) → Each sorted (HasLowestNormal p)
-normals_sorted p found sorted moved n = each_in (HasLowestNormal p) sorted (λ f h.
-    in_each (HasLowestNormal p) found f n (contains_has found f (Contains-permutation sorted found f (IsPermutation-sym found sorted moved) (has_contains sorted f h))))
+-- what each cell has, each has in any order
+pub each_sorted : (P : FoundCell → Type 0) (found sorted : List FoundCell) → IsPermutation found sorted → Each found P → Each sorted P
+each_sorted P found sorted moved n = each_in P sorted (λ f h.
+    in_each P found f n (contains_has found f (Contains-permutation sorted found f (IsPermutation-sym found sorted moved) (has_contains sorted f h))))
 
 -- ---- the count
 cost_by_size : (p : Problem) (b : shares.Branch) (m : ℕ) (x y : ℕ)
@@ -81,7 +82,7 @@ pub found_whole : (p : Problem) → IsProblem p → (given left : List Branch) (
 found_whole p well given left cells found none moved order keeps counts few normals = record {
   cells = all_found p given left cells found.cells.items none moved keeps;
   order = order;
-  normals = normals_sorted p cells found.cells.items moved normals;
+  normals = each_sorted (HasLowestNormal p) cells found.cells.items moved normals;
   solves = all_counted p well given left found.solves none few counts;
 }
 

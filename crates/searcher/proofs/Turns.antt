@@ -24,6 +24,7 @@ use Rattle.searcher.specs.declared.branches.Branch.{Branch}
 use Rattle.searcher.specs.declared.expansions.Expansion.{Expansion}
 use Rattle.searcher.specs.declared.expansions.Expansion.TheVariants.{Inner, Target, Endless, Stranger}
 use Rattle.searcher.specs.Branches.{branch_of, branches_of, children_of}
+use Rattle.searcher.specs.Workings.{FitsWorking}
 use Rattle.searcher.specs.Expansions.{IsExpansion, HasLowestNormal}
 use Rattle.searcher.specs.Searches.{IsLeft, IsCount, cells_of, opened, found_in, top}
 
@@ -110,6 +111,19 @@ normal_found p b (Stranger branch) h = tt
 
 pub turn_normals : (p : Problem) (b : Branch) (e : Expansion) → IsExpansion p b e → (found : List FoundCell) → Each found (HasLowestNormal p) → Each (found ++ found_in e) (HasLowestNormal p)
 turn_normals p b e is found n = each_append (HasLowestNormal p) found (found_in e) n (normal_found p b e is)
+
+-- ---- workings
+abbrev pub HasFit : Problem → FoundCell → Type 0
+HasFit p found = FitsWorking p found.cell
+
+fit_found : (p : Problem) (b : Branch) (e : Expansion) → IsExpansion p b e → Each (found_in e) (HasFit p)
+fit_found p b (Inner children) h = tt
+fit_found p b (Target found) h = (subst (FitsWorking p) (sym h.1) h.0.0.1, tt)
+fit_found p b Endless h = tt
+fit_found p b (Stranger branch) h = tt
+
+pub turn_fit : (p : Problem) (b : Branch) (e : Expansion) → IsExpansion p b e → (found : List FoundCell) → Each found (HasFit p) → Each (found ++ found_in e) (HasFit p)
+turn_fit p b e is found n = each_append (HasFit p) found (found_in e) n (fit_found p b e is)
 
 -- ---- the branches that are left
 pub each_in : {A : Type 0} (P : A → Type 0) (xs : List A) → ((x : A) → Has x xs → P x) → Each xs P

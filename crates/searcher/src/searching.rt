@@ -1,8 +1,10 @@
 ghost use Rattle.std.specs.Prelude.{◌≡◌, ◌+◌, ◌≤◌, ◌++◌, IfOk, IfErr, IsTrue, MatchResult, IsPermutation, vec_len, vec_capacity};
+ghost use Rattle.int_vectors.specs.Vectors.{Each};
 ghost use Rattle.cayley.specs.Problems.{IsStill};
 ghost use Rattle.cayley.specs.Shares.{Solved};
 ghost use Rattle.cayley.specs.Ties.{IsTieFree};
 ghost use Rattle.searcher.specs.Branches.{branch_of, children_of};
+ghost use Rattle.searcher.specs.Workings.{FitsWorking};
 ghost use Rattle.searcher.specs.Expansions.{ShowsTieAtEnd, HasNoTie};
 ghost use Rattle.searcher.specs.Searches.{IsFound, IsStopped, IsCount, FindsShare, FindsSize, NeverFalls, cells_of, opened, found_in, top};
 
@@ -114,6 +116,8 @@ pub fn search_alone<L: Ledger>(
     // Of one branch the cells are its share, and the steps are its size.
     ensures share { IfOk result (FindsShare problem.now branches.items) }
     ensures size { IfOk result (FindsSize problem.now branches.items) }
+    // The whole working of each found cell fits.
+    ensures fit { IfOk result (λ f. Each f.cells.items (λ x. FitsWorking problem.now x.cell)) }
     ensures counted { MatchResult result (λ f. IsCount steps.old steps.new f.solves) (λ s. IsCount steps.old steps.new s.found.solves) }
     // A tie is one where its cell begins or ends, and none comes where no cell has a tie.
     ensures tie { IfErr result (λ s. ShowsTieAtEnd problem.now s.cause) }

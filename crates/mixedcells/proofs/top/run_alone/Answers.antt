@@ -1,14 +1,14 @@
 use Rattle.std.proofs.Common.{◌≡◌, inr, Some, [], map, string_bytes, ap, arith, refl, rules, false, IsTrue}
 use Rattle.mixedcells.specs.Words.{needs_team}
 use Rattle.mixedcells.specs.Outcomes.{status_of}
-use Rattle.mixedcells.specs.declared.words.Command.TheVariants.{Plain, Check, Make}
+use Rattle.mixedcells.specs.declared.words.Command.TheVariants.{Plain, Check, Generic, Make}
 use Rattle.mixedcells.proofs.CommandLine.Words.{no_reader, reader, same_team}
 use Rattle.mixedcells.proofs.CommandLine.Ranges.{fits}
 use Rattle.mixedcells.proofs.Ended.{appends_as, usage_cut, usage_written}
 use Rattle.mixedcells.proofs.Exact.{tie_other, cell_other, team_other, called_made, comes, makes, lists, ended_listed, ended_powers, ok_other, known}
 use Rattle.mixedcells.proofs.AlongPaths as along
 use Rattle.mixedcells.proofs.Teams.{no_team, asked_for, usage_alone, meant_team, team_called, appends_none, no_other, no_walk, no_reading, walking_meant}
-use Rattle.mixedcells.proofs.Judged.{checked, judged, spares, plain_spared}
+use Rattle.mixedcells.proofs.Judged.{checked, judged, spares, plain_spared, list_spared}
 use Rattle.mixedcells.proofs.top.run_alone.Goals as goal
 
 pub returns-in-Ok-clause-written : goal.returns-in-Ok-clause-written
@@ -44,7 +44,14 @@ returns-in-Ok-clause-powers g c = λ bytes left means ok.
 pub returns-in-Ok-clause-written_listing : goal.returns-in-Ok-clause-written_listing
 returns-in-Ok-clause-written_listing g c = λ bytes left means ok.
     let w = returns-in-Ok-clause-written g c (ok_other _ ok) in
-    (w.0, plain_spared (map string_bytes c.args.words.now) _ bytes _ w.0 left means ok w.1, w.2)
+    let l = plain_spared (map string_bytes c.args.words.now) _ bytes _ w.0 left means ok w.1 in
+    (l.0, l.1, (w.0, l.2, w.2))
+
+pub returns-in-Ok-clause-written_reached : goal.returns-in-Ok-clause-written_reached
+returns-in-Ok-clause-written_reached g c = λ bytes left means ok.
+    let w = returns-in-Ok-clause-written g c (ok_other _ ok) in
+    let l = list_spared (map string_bytes c.args.words.now) _ bytes _ w.0 left means ok w.1 in
+    (l.0, l.1, (w.0, l.2, w.2))
 
 pub returns-in-Ok-clause-checked : goal.returns-in-Ok-clause-checked
 returns-in-Ok-clause-checked g c = λ bytes left means ok.
@@ -56,8 +63,8 @@ returns-in-Ok-clause-judged g c = λ bytes listing left short means text fit.
     judged (map string_bytes c.args.words.now) bytes means listing _ short text fit (λ other. let w = returns-in-Ok-clause-written g c other in (w.0, known (map string_bytes c.args.words.now) _ bytes _ _ left w.1))
 
 pub returns-in-Ok-clause-spares : goal.returns-in-Ok-clause-spares
-returns-in-Ok-clause-spares g c = λ bytes left means written.
-    spares (map string_bytes c.args.words.now) bytes means written _ (λ other. let w = returns-in-Ok-clause-written g c other in (w.0, known (map string_bytes c.args.words.now) _ bytes _ _ left w.1))
+returns-in-Ok-clause-spares g c = λ bytes file left means written.
+    spares (map string_bytes c.args.words.now) bytes means file written _ (λ other. let w = returns-in-Ok-clause-written g c other in (w.0, known (map string_bytes c.args.words.now) _ bytes _ _ left w.1))
 
 pub returns-in-Ok-clause-headline : goal.returns-in-Ok-clause-headline
 returns-in-Ok-clause-headline g c = λ bytes file left means f safe ok.
@@ -88,6 +95,10 @@ pub returns-in-Ok-clause-overflow_cause : goal.returns-in-Ok-clause-overflow_cau
 returns-in-Ok-clause-overflow_cause g c = λ bytes cell left walks is.
     let w = returns-in-Ok-clause-written g c (cell_other _ cell is) in
     along.overflow_cause (map string_bytes c.args.words.now) bytes cell _ _ w.0 left walks is w.1
+
+pub returns-in-Ok-clause-judged_ties : goal.returns-in-Ok-clause-judged_ties
+returns-in-Ok-clause-judged_ties g c = λ bytes file left short means e many fit.
+    along.judged_ties (map string_bytes c.args.words.now) bytes file _ short means e many fit (λ other. let w = returns-in-Ok-clause-written g c other in (w.0, known (map string_bytes c.args.words.now) _ bytes _ _ left w.1))
 
 pub returns-in-Ok-clause-tie_free : goal.returns-in-Ok-clause-tie_free
 returns-in-Ok-clause-tie_free g c = λ bytes file left means f ok.
@@ -161,13 +172,18 @@ returns-then-needs_team-clause-complete g c = λ bytes file left short means e m
     let team : IsTrue (needs_team c.in-Some.command) = search rules in
     no_other (map string_bytes c.args.words.now) c.in-Some.command Plain c.in-Some.ensures.meaning team refl means
 
+pub returns-then-needs_team-clause-judged_ties : goal.returns-then-needs_team-clause-judged_ties
+returns-then-needs_team-clause-judged_ties g c = λ bytes file left short means e many fit.
+    let team : IsTrue (needs_team c.in-Some.command) = search rules in
+    no_other (map string_bytes c.args.words.now) c.in-Some.command Generic c.in-Some.ensures.meaning team refl means
+
 pub returns-then-needs_team-clause-judged : goal.returns-then-needs_team-clause-judged
 returns-then-needs_team-clause-judged g c = λ bytes listing left short means text fit.
     let team : IsTrue (needs_team c.in-Some.command) = search rules in
     no_other (map string_bytes c.args.words.now) c.in-Some.command Check c.in-Some.ensures.meaning team refl means
 
 pub returns-then-needs_team-clause-spares : goal.returns-then-needs_team-clause-spares
-returns-then-needs_team-clause-spares g c = λ bytes left means written.
+returns-then-needs_team-clause-spares g c = λ bytes file left means written.
     let team : IsTrue (needs_team c.in-Some.command) = search rules in
     no_other (map string_bytes c.args.words.now) c.in-Some.command Check c.in-Some.ensures.meaning team refl means
 

@@ -6,8 +6,8 @@ use Rattle.searcher.specs.Branches.{branches_of}
 use Rattle.searcher.specs.Expansions.{HasLowestNormal}
 use Rattle.searcher.specs.Searches.{IsLeft, cells_of, opened, found_in, top}
 use Rattle.searcher.proofs.Sizes.{size_in, size_in_gives}
-use Rattle.searcher.proofs.Turns.{is_still_problem, well_of, turn_keeps, turn_counts, turn_falls, turn_normals, turn_left, turn_count, left_begin, count_begin, count_few}
-use Rattle.searcher.proofs.Results.{found_whole, finds_share, finds_size, cause_left, stopped_with}
+use Rattle.searcher.proofs.Turns.{is_still_problem, well_of, turn_keeps, turn_counts, turn_falls, turn_normals, HasFit, turn_fit, turn_left, turn_count, left_begin, count_begin, count_few}
+use Rattle.searcher.proofs.Results.{found_whole, each_sorted, finds_share, finds_size, cause_left, stopped_with}
 use Rattle.searcher.proofs.searching.search_alone.Goals as goal
 
 pub loop-branch-init : goal.loop-branch-init
@@ -18,6 +18,7 @@ loop-branch-init g c = record {
   counts = λ size cost gives costs. counts_begin cost top (branches_of c.args.branches.items);
   count = count_begin c.args.steps.now;
   normals = subst (λ l. Each l (HasLowestNormal c.args.problem.now)) (sym c.new-cells.ensures.items) tt;
+  fit = subst (λ l. Each l (HasFit c.args.problem.now)) (sym c.new-cells.ensures.items) tt;
   left = left_begin c.args.problem.now c.args.branches.items;
 }
 
@@ -73,6 +74,7 @@ loop-branch-preserved g c =
       count = turn_count p b c.args.steps.now c.loop-branch.steps c.expand.new.steps c.loop-branch.solves c.count_after-solves.result c.expand.ensures.step c.expand.ensures.no_step
           c.count_after-solves.ensures before.count;
       normals = subst (λ l. Each l (HasLowestNormal p)) (sym kept) (turn_normals p b e told cells before.normals);
+      fit = subst (λ l. Each l (HasFit p)) (sym kept) (turn_fit p b e told cells before.fit);
       left = subst (λ l. Each l (IsLeft p given)) (sym put) (turn_left p given left rest b e popped told before.left);
     }
 
@@ -90,3 +92,6 @@ returns-clause-share g c =
 pub returns-clause-size : goal.returns-clause-size
 returns-clause-size g c =
     finds_size c.args.problem.now (well_of c.args.problem.now c.dim-dim.ensures.valid) c.args.branches.items _ (returns-clause-answer g c)
+
+pub returns-clause-fit : goal.returns-clause-fit
+returns-clause-fit g c = each_sorted (HasFit c.args.problem.now) c.loop-branch.cells.items _ c.put_in_order.ensures.same c.loop-branch.invariant.fit

@@ -8,6 +8,7 @@ use Rattle.searcher.specs.Branches.{branches_of}
 use Rattle.searcher.specs.Expansions.{HasLowestNormal}
 use Rattle.searcher.specs.Searches.{IsLeft, IsCount, cells_of, top}
 use Rattle.searcher.proofs.Sizes.{size_in}
+use Rattle.searcher.proofs.Turns.{HasFit}
 use Rattle.searcher.proofs.searching.search_alone.Given as goal
 
 abbrev pub invariant-loop-branch : goal.invariant-loop-branch
@@ -16,6 +17,7 @@ invariant-loop-branch g l = record {
   counts : (size cost : Branch → ℕ) → GivesSizes l.problem size → GivesCosts l.problem size cost → Counts cost top (branches_of l.fn.branches.items) l.solves (branches_of l.left.items);
   count : IsCount l.fn.steps l.steps l.solves;
   normals : Each l.cells.items (HasLowestNormal l.problem);
+  fit : Each l.cells.items (HasFit l.problem);
   left : Each l.left.items (IsLeft l.problem l.fn.branches.items);
 }
 
