@@ -11,3 +11,4 @@ pub mod Judged
 pub mod Walking
 pub mod AlongPaths
 pub mod Teams
+pub mod ForOne

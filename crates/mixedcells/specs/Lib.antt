@@ -1,5 +1,6 @@
 pub mod Reading
 pub mod Words
+pub mod ByMany
 pub mod CommandLine
 pub mod Families
 pub mod Outcomes

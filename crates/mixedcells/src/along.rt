@@ -1,10 +1,10 @@
 // What `list`, `sum` and `generic` reply on a file.
-ghost use Rattle.std.specs.Prelude.{◌≡◌, IfOk};
+ghost use Rattle.std.specs.Prelude.{◌≡◌, IfOk, MatchResult};
 ghost use Rattle.lex_height.specs.Values.{IsLowest};
 ghost use Rattle.mixedcells.specs.Outcomes as lines;
 ghost use Rattle.mixedcells.specs.Outcomes.{IsTieLine};
 ghost use Rattle.mixedcells.specs.Walks.{IsReachedListing, IsReachedSum, IsWalkReply, IsTieReply};
-ghost use Rattle.mixedcells.specs.Journeys.{TellsCause};
+ghost use Rattle.mixedcells.specs.Journeys.{TellsCause, HasWalked, HasHalted};
 
 use crate::lines::{overflow_cell, sum_lines, tie_free_line, tie_line, too_many_line};
 use crate::outcome::Outcome;
@@ -13,7 +13,7 @@ use crate::walks::walk;
 use cayley::{Cell, LiftFile, TieProof};
 use listing_text::write_listing;
 use plain_lister::{PlainFault, is_tie_free};
-use searcher::HaltCause;
+use searcher::{Found, HaltCause};
 use start_system::with_corners;
 use std::alloc::Global;
 use wide_int::OutOfMemory;
@@ -52,11 +52,16 @@ fn halted(alloc: Global, cause: HaltCause) -> Result<Reply, OutOfMemory>
     }
 }
 
-/// What `list` replies on a file.
-pub fn list(alloc: Global, file: &LiftFile) -> Result<Reply, OutOfMemory>
+/// What `list` replies on a file whose path was walked.
+pub fn list_of(
+    alloc: Global,
+    file: &LiftFile,
+    walked: Result<Found, HaltCause>,
+) -> Result<Reply, OutOfMemory>
+    requires { MatchResult walked (HasWalked file.now) (HasHalted file.now) }
     ensures { IfOk result (λ r. IsWalkReply IsReachedListing file.now r.outcome r.text.items) }
 {
-    match walk(alloc, file) {
+    match walked {
         Ok(found) => {
             let text = write_listing(alloc, file, &found.cells)?;
             Ok(Reply {
@@ -68,11 +73,16 @@ pub fn list(alloc: Global, file: &LiftFile) -> Result<Reply, OutOfMemory>
     }
 }
 
-/// What `sum` replies on a file.
-pub fn sum(alloc: Global, file: &LiftFile) -> Result<Reply, OutOfMemory>
+/// What `sum` replies on a file whose path was walked.
+pub fn sum_of(
+    alloc: Global,
+    file: &LiftFile,
+    walked: Result<Found, HaltCause>,
+) -> Result<Reply, OutOfMemory>
+    requires { MatchResult walked (HasWalked file.now) (HasHalted file.now) }
     ensures { IfOk result (λ r. IsWalkReply IsReachedSum file.now r.outcome r.text.items) }
 {
-    match walk(alloc, file) {
+    match walked {
         Ok(found) => {
             let text = sum_lines(alloc, found.cells.len(), found.solves)?;
             Ok(Reply {
@@ -82,6 +92,20 @@ pub fn sum(alloc: Global, file: &LiftFile) -> Result<Reply, OutOfMemory>
         }
         Err(cause) => halted(alloc, cause),
     }
+}
+
+/// What `list` replies on a file by one searcher.
+pub fn list(alloc: Global, file: &LiftFile) -> Result<Reply, OutOfMemory>
+    ensures { IfOk result (λ r. IsWalkReply IsReachedListing file.now r.outcome r.text.items) }
+{
+    list_of(alloc, file, walk(alloc, file))
+}
+
+/// What `sum` replies on a file by one searcher.
+pub fn sum(alloc: Global, file: &LiftFile) -> Result<Reply, OutOfMemory>
+    ensures { IfOk result (λ r. IsWalkReply IsReachedSum file.now r.outcome r.text.items) }
+{
+    sum_of(alloc, file, walk(alloc, file))
 }
 
 /// What `generic` replies on a file.

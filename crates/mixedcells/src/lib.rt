@@ -2,18 +2,25 @@
 #![tactic(auto)]
 
 mod along;
+mod gate;
 mod lines;
+mod many;
 mod outcome;
 mod replies;
+mod together;
 mod top;
 mod walks;
 mod words;
 
+pub use gate::Gate;
+pub use many::run;
 pub use outcome::Outcome;
 pub use top::run_alone;
 pub use words::{Command, Family};
 
 #[cfg(test)]
 mod along_tests;
+#[cfg(test)]
+mod many_tests;
 #[cfg(test)]
 mod tests;

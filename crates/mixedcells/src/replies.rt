@@ -94,7 +94,7 @@ fn generic(alloc: Global, bytes: &[u8]) -> Result<Reply, OutOfMemory>
 }
 
 // The reply to a fault of the input's format.
-fn refusal(alloc: Global, fault: FormatFault) -> Result<Reply, OutOfMemory>
+pub fn refusal(alloc: Global, fault: FormatFault) -> Result<Reply, OutOfMemory>
     ensures { IfOk result (λ r. TellsFault fault r.outcome r.text.items) }
 {
     let text = format_line(alloc, fault.line, fault.kind)?;

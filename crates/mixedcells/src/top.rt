@@ -173,7 +173,7 @@ fn run_command<S: Source, K: Sink>(
 }
 
 // What a command reads: all that the source has left, or nothing.
-fn read_input<S: Source>(
+pub fn read_input<S: Source>(
     alloc: Global,
     command: Command,
     source: &mut S,
@@ -191,7 +191,7 @@ fn read_input<S: Source>(
 }
 
 // Writes the text of an outcome.
-fn finish<K: Sink>(sink: &mut K, text: &[u8], outcome: Outcome) -> Outcome
+pub fn finish<K: Sink>(sink: &mut K, text: &[u8], outcome: Outcome) -> Outcome
     ensures ends { Finishes (K.held sink.old) (K.held sink.new) (K.faults sink.old) (K.faults sink.new) text.now outcome result }
     ensures later { K.faults sink.old ≤ K.faults sink.new }
 {

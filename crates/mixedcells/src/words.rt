@@ -2,6 +2,7 @@
 ghost use Rattle.std.specs.Prelude.{◌≡◌, IfOk, MatchOption, option_and_then, map, string_bytes};
 ghost use Rattle.mixedcells.specs.Words as spec;
 ghost use Rattle.mixedcells.specs.Words.{Means, HasMeaning};
+ghost use Rattle.mixedcells.specs.ByMany as by;
 
 mod command_line;
 mod families;
@@ -59,6 +60,17 @@ impl Command {
         match self {
             Command::List(searchers) | Command::Sum(searchers) => 2 <= searchers,
             _ => false,
+        }
+    }
+
+    /// The command as one searcher does it alone.
+    pub fn by_one(self) -> Command
+        ensures { result ≡ by.by_one self }
+    {
+        match self {
+            Command::List(_) => Command::List(1),
+            Command::Sum(_) => Command::Sum(1),
+            other => other,
         }
     }
 }

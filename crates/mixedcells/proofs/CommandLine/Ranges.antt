@@ -11,8 +11,9 @@ use Rattle.mixedcells.specs.declared.words.meaning.Family.{Family}
 use Rattle.mixedcells.specs.declared.words.meaning.Family.TheVariants as family
 use Rattle.mixedcells.specs.declared.words.meaning.Meaning.{Meaning}
 use Rattle.mixedcells.specs.declared.words.meaning.Meaning.TheVariants as meaning
-use Rattle.mixedcells.specs.Words.{is_number, number, searchers, scatter_of, scatter, cyclic, family_of, seed_of, making, after, made_by_two, made_of, seed_place, alone, meaning_of, built, Means}
+use Rattle.mixedcells.specs.Words.{is_number, number, searchers_in, searchers, scatter_of, scatter, cyclic, family_of, seed_of, making, after, made_by_two, made_of, seed_place, alone, meaning_of, built, Means}
 use Rattle.mixedcells.specs.Families.{IsInLimits, IsFit}
+use Rattle.mixedcells.specs.ByMany.{searchers_of}
 
 abbrev IsWithin : Meaning → Type 0
 IsWithin (meaning.Make f seed) = IsInLimits f
@@ -20,8 +21,8 @@ IsWithin meaning.Plain = Unit {0}
 IsWithin meaning.Check = Unit {0}
 IsWithin meaning.Powers = Unit {0}
 IsWithin meaning.Generic = Unit {0}
-IsWithin (meaning.List n) = Unit {0}
-IsWithin (meaning.Sum n) = Unit {0}
+IsWithin (meaning.List n) = (1 ≤ n) × (n ≤ 64)
+IsWithin (meaning.Sum n) = (1 ≤ n) × (n ≤ 64)
 
 number_by : (low high n : ℕ) (a b c : Bool) → nat_le low n ≡ b → nat_le n high ≡ c → IfSome (if a && (b && c) then Some n else None) (λ k. (low ≤ k) × (k ≤ high))
 number_by low high n true true true e f = (grind (arith, nat_tests, e), grind (arith, nat_tests, f))
@@ -89,13 +90,27 @@ alone_within : (m : Meaning) (ws : List Text) → IsWithin m → IfSome (alone m
 alone_within m [] h = h
 alone_within m (w ∷ ws) h = tt
 
-list_within : (o : Option ℕ) → IfSome (option_map meaning.List o) IsWithin
-list_within None = tt
-list_within (Some n) = tt
+named_searchers : (o : Option Text) → IfSome (option_and_then searchers_in o) (λ k. (1 ≤ k) × (k ≤ 64))
+named_searchers None = tt
+named_searchers (Some v) = number_within 1 64 v
 
-sum_within : (o : Option ℕ) → IfSome (option_map meaning.Sum o) IsWithin
-sum_within None = tt
-sum_within (Some n) = tt
+searchers_by : (b : Bool) (v : Text) → IfSome (if b then searchers_in v else None) (λ k. (1 ≤ k) × (k ≤ 64))
+searchers_by true v = number_within 1 64 v
+searchers_by false v = tt
+
+searchers_within : (ws : List Text) → IfSome (searchers ws) (λ k. (1 ≤ k) × (k ≤ 64))
+searchers_within [] = (omega arith, omega arith)
+searchers_within (w ∷ []) = named_searchers (after (codes "--searchers=") w)
+searchers_within (w ∷ v ∷ []) = searchers_by (bytes_eq w (codes "--searchers")) v
+searchers_within (w ∷ v ∷ x ∷ ws) = tt
+
+list_within : (o : Option ℕ) → IfSome o (λ k. (1 ≤ k) × (k ≤ 64)) → IfSome (option_map meaning.List o) IsWithin
+list_within None h = tt
+list_within (Some n) h = h
+
+sum_within : (o : Option ℕ) → IfSome o (λ k. (1 ≤ k) × (k ≤ 64)) → IfSome (option_map meaning.Sum o) IsWithin
+sum_within None h = tt
+sum_within (Some n) h = h
 
 within : (ws : List Text) → IfSome (meaning_of ws) IsWithin
 within [] = tt
@@ -104,8 +119,8 @@ within (w ∷ ws) =
     choice (bytes_eq w (codes "check")) _ _ (alone_within meaning.Check ws tt) (
     choice (bytes_eq w (codes "powers")) _ _ (alone_within meaning.Powers ws tt) (
     choice (bytes_eq w (codes "generic")) _ _ (alone_within meaning.Generic ws tt) (
-    choice (bytes_eq w (codes "list")) _ _ (list_within (searchers ws)) (
-    choice (bytes_eq w (codes "sum")) _ _ (sum_within (searchers ws)) (
+    choice (bytes_eq w (codes "list")) _ _ (list_within (searchers ws) (searchers_within ws)) (
+    choice (bytes_eq w (codes "sum")) _ _ (sum_within (searchers ws) (searchers_within ws)) (
     choice (bytes_eq w (codes "make")) _ _ (made_within (take (seed_place ws) ws) (drop (seed_place ws) ws)) tt))))))
 
 fit_by : (o : Option Meaning) (c : Command) → IfSome o IsWithin → option_and_then built o ≡ Some c → IsFit c
@@ -127,3 +142,17 @@ fit_by (Some (meaning.Sum n)) (verb.Make f s) h e = cc
 -- the numbers of a command that words ask for are in their limits
 pub fits : (words : List Text) (c : Command) → Means words c → IsFit c
 fits words c e = fit_by (meaning_of words) c (within words) e
+
+searchers_fit_by : (o : Option Meaning) (c : Command) → IfSome o IsWithin → option_and_then built o ≡ Some c → (1 ≤ searchers_of c) × (searchers_of c ≤ 64)
+searchers_fit_by None c h e = cc
+searchers_fit_by (Some (meaning.List n)) c h e = let same : verb.List n ≡ c = cc in subst (λ d. (1 ≤ searchers_of d) × (searchers_of d ≤ 64)) same h
+searchers_fit_by (Some (meaning.Sum n)) c h e = let same : verb.Sum n ≡ c = cc in subst (λ d. (1 ≤ searchers_of d) × (searchers_of d ≤ 64)) same h
+searchers_fit_by (Some meaning.Plain) c h e = let same : verb.Plain ≡ c = cc in subst (λ d. (1 ≤ searchers_of d) × (searchers_of d ≤ 64)) same (omega arith, omega arith)
+searchers_fit_by (Some meaning.Check) c h e = let same : verb.Check ≡ c = cc in subst (λ d. (1 ≤ searchers_of d) × (searchers_of d ≤ 64)) same (omega arith, omega arith)
+searchers_fit_by (Some meaning.Generic) c h e = let same : verb.Generic ≡ c = cc in subst (λ d. (1 ≤ searchers_of d) × (searchers_of d ≤ 64)) same (omega arith, omega arith)
+searchers_fit_by (Some meaning.Powers) c h e = let same : verb.Powers ≡ c = cc in subst (λ d. (1 ≤ searchers_of d) × (searchers_of d ≤ 64)) same (omega arith, omega arith)
+searchers_fit_by (Some (meaning.Make f s)) c h e = let same : verb.Make f s ≡ c = cc in subst (λ d. (1 ≤ searchers_of d) × (searchers_of d ≤ 64)) same (omega arith, omega arith)
+
+-- words ask for 1 to 64 searchers
+pub searchers_fit : (words : List Text) (c : Command) → Means words c → (1 ≤ searchers_of c) × (searchers_of c ≤ 64)
+searchers_fit words c e = searchers_fit_by (meaning_of words) c (within words) e

@@ -3,14 +3,14 @@ use Rattle.mixedcells.specs.Walks.{IsReachedSum, IsWalkReply}
 use Rattle.mixedcells.specs.Journeys.{TellsCause}
 use Rattle.mixedcells.proofs.Readings.{if_ok_weaker}
 use Rattle.mixedcells.proofs.AlongPaths.{tells_walk, sum_written}
-use Rattle.mixedcells.proofs.along.sum.Goals as goal
+use Rattle.mixedcells.proofs.along.sum_of.Goals as goal
 
 pub returns-in_ok-text-in-Ok : goal.returns-in_ok-text-in-Ok
 returns-in_ok-text-in-Ok c =
     let count : c.len.result ≡ length c.in-Ok.found.cells.items = search rules in
-    sum_written c.args.file.now c.in-Ok.found c.len.result _ c.in-Ok.ensures count c.in_ok-text-in-Ok.ensures
+    sum_written c.args.file.now c.in-Ok.found c.len.result _ (rw c.in-Ok.is at c.requires) count c.in_ok-text-in-Ok.ensures
 
 pub returns-in-Err : goal.returns-in-Err
 returns-in-Err c =
     if_ok_weaker c.halted.result (λ r. TellsCause c.in-Err.cause r.outcome r.text.items) (λ r. IsWalkReply IsReachedSum c.args.file.now r.outcome r.text.items)
-    (λ r told. tells_walk IsReachedSum c.args.file.now c.in-Err.cause r.outcome r.text.items c.in-Err.ensures told) c.halted.ensures
+    (λ r told. tells_walk IsReachedSum c.args.file.now c.in-Err.cause r.outcome r.text.items (rw c.in-Err.is at c.requires) told) c.halted.ensures

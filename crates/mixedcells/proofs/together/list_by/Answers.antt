@@ -1,0 +1,10 @@
+use Rattle.std.proofs.Common.{inl}
+use Rattle.mixedcells.specs.Walks.{IsReachedListing, IsWalkReply}
+use Rattle.mixedcells.specs.Answers.{IsFileReply}
+use Rattle.mixedcells.proofs.Readings.{if_ok_weaker}
+use Rattle.mixedcells.proofs.together.list_by.Goals as goal
+
+pub returns-in-Ok : goal.returns-in-Ok
+returns-in-Ok g c =
+    if_ok_weaker c.list_of.result (λ r. IsWalkReply IsReachedListing c.in-Ok.file r.outcome r.text.items) (λ r. IsFileReply (IsWalkReply IsReachedListing) c.args.bytes.now r.outcome r.text.items)
+    (λ r h. inl (c.in-Ok.file, c.in-Ok.ensures, h)) c.list_of.ensures
