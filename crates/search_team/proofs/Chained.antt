@@ -109,10 +109,10 @@ pub led_then : (p : Problem) (given left rest : List Branch) → Each left (IsLe
 led_then p given left rest e h = each_weaker (IsLeft p left) (IsLeft p given) rest (then_left p given left e) h
 
 -- ---- causes
-pub found_left : {P : Branch → Type 0} (left : List Branch) (c : Cell) → Each left P → Contains (map (λ (b : Branch). b.cell) left) c → (b : Branch) × P b × (b.cell ≡ c)
-found_left [] c h (i, l, e) = absurd (omega (arith, l))
-found_left (x ∷ left) c h (zero, l, e) = (x, h.0, e)
-found_left (x ∷ left) c h (suc i, l, e) = found_left left c h.1 (i, omega (arith, l), e)
+pub found_left : (P : Branch → Type 0) (left : List Branch) (c : Cell) → Each left P → Contains (map (λ (b : Branch). b.cell) left) c → (b : Branch) × P b × (b.cell ≡ c)
+found_left P [] c h (i, l, e) = absurd (omega (arith, l))
+found_left P (x ∷ left) c h (zero, l, e) = (x, h.0, e)
+found_left P (x ∷ left) c h (suc i, l, e) = found_left P left c h.1 (i, omega (arith, l), e)
 
 left_behind : (p : Problem) (given : List Branch) (b : Branch) → IsLeft p given b → IsBehind p given b.cell
 left_behind p given b (inl c) = (b, c, here)
@@ -120,7 +120,7 @@ left_behind p given b (inr h) = behind_of p given b h.1
 
 cell_behind : (p : Problem) (given left : List Branch) (c : Cell) → Each left (IsLeft p given) → Contains (map (λ (b : Branch). b.cell) left) c → IsBehind p given c
 cell_behind p given left c led h =
-    let f = found_left left c led h in
+    let f = found_left (IsLeft p given) left c led h in
     subst (IsBehind p given) f.2 (left_behind p given f.0 f.1)
 
 pub cause_behind : (p : Problem) (given left : List Branch) → Each left (IsLeft p given) → (cause : HaltCause) → IsOfLeft p left cause → ShowsTieAtEnd p cause → IsCauseBehind p given cause

@@ -94,10 +94,10 @@ module _ (p : Problem) where
       let origin : Each (L ++ O) (IsMade p (given ++ T) (given ++ T)) =
       each_append (IsMade p (given ++ T) (given ++ T)) L O (each_made p (G ++ T) (given ++ T) (G ++ T) (given ++ T) over over L a.kept)
       (each_made p G (given ++ T) (G ++ T) (given ++ T) (λ b c. over b (Contains-append_left G T b c)) over O a.made) in
-      let at_seats : (ss : List (SeatData Branch)) → ss ≡ seats → KeepShares p (given ++ taken_by ss) (cells_of F) (left_of s ++ offered_by ss)
-      = λ ss e. subst (λ x. KeepShares p (given ++ taken_by x) (cells_of F) (left_of s ++ offered_by x)) (sym e) (subst (λ x. KeepShares p (given ++ T) (cells_of F) (x ++ O)) same shares) in
-      let made_at : (ss : List (SeatData Branch)) → ss ≡ seats → Each (left_of s ++ offered_by ss) (IsMade p (given ++ taken_by ss) (given ++ taken_by ss))
-      = λ ss e. subst (λ x. Each (left_of s ++ offered_by x) (IsMade p (given ++ taken_by x) (given ++ taken_by x))) (sym e) (subst (λ x. Each (x ++ O) (IsMade p (given ++ T) (given ++ T))) same origin) in
+      let at_seats : (ss : List (SeatData Branch)) → ss ≡ seats → KeepShares p (given ++ taken_by ss) (cells_of F) (left_of s ++ offered_by ss) =
+      λ ss e. subst (λ x. KeepShares p (given ++ taken_by x) (cells_of F) (left_of s ++ offered_by x)) (sym e) (subst (λ x. KeepShares p (given ++ T) (cells_of F) (x ++ O)) same shares) in
+      let made_at : (ss : List (SeatData Branch)) → ss ≡ seats → Each (left_of s ++ offered_by ss) (IsMade p (given ++ taken_by ss) (given ++ taken_by ss)) =
+      λ ss e. subst (λ x. Each (left_of s ++ offered_by x) (IsMade p (given ++ taken_by x) (given ++ taken_by x))) (sym e) (subst (λ x. Each (x ++ O) (IsMade p (given ++ T) (given ++ T))) same origin) in
       let there : (P : Unclosed Branch → Type 0) → P u → IfSome s.rest P = λ P h. subst (λ x. IfSome x P) (sym some) h in
       let not_none : s.rest ≡ None → ⊥ = λ e. some_none u (sym some ∙ e) in
       record {

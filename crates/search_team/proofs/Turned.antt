@@ -1,5 +1,5 @@
 -- a turn keeps a job whole
-use Rattle.std.proofs.Common.{◌≡◌, ◌≢◌, ◌≤◌, ℕ, ◌+◌, List, [], ◌∷◌, ◌++◌, Option, None, Some, min, rules, arith, refl, sym, ap, subst, ◌∙◌, inl, inr, append_assoc, append-nil, length}
+use Rattle.std.proofs.Common.{◌≡◌, ◌≢◌, ◌≤◌, ℕ, suc, ◌+◌, List, [], ◌∷◌, ◌++◌, Option, None, Some, min, rules, arith, refl, sym, ap, subst, ◌∙◌, inl, inr, append_assoc, append-nil, length}
 use Rattle.std.specs.Prelude.{IsPermutation, IfSome, Contains}
 use Rattle.std.proofs.lemmas.List.Elements.{Contains-append_left}
 use Rattle.std.proofs.lemmas.List.Sorted.{IsPermutation-refl, IsPermutation-trans, IsPermutation-append_right, IsPermutation-append_comm, Contains-permutation}
@@ -31,12 +31,12 @@ use Rattle.search_team.proofs.Expanded.{expansion_balance, opened_children}
 -- one that stands at the end of the first goes to the second
 to_second : {B : Type 0} (g t t' : List B) (b : B) → IsPermutation (b ∷ t) t' → IsPermutation ((g ++ t) ++ b ∷ []) (g ++ t')
 to_second g t t' b p =
-    IsPermutation-trans _ _ _ (subst (λ l. IsPermutation l (g ++ (t ++ b ∷ []))) (sym (append_assoc g t (b ∷ []))) (IsPermutation-refl (g ++ (t ++ b ∷ []))))
+    subst (λ l. IsPermutation l (g ++ t')) (sym (append_assoc g t (b ∷ [])))
     (IsPermutation-append_right g (t ++ b ∷ []) t' (IsPermutation-trans (t ++ b ∷ []) (b ∷ t) t' (IsPermutation-append_comm t (b ∷ [])) p))
 
 last_there : {B : Type 0} (xs : List B) (b : B) → Contains (xs ++ b ∷ []) b
 last_there [] b = (0, omega arith, refl)
-last_there (x ∷ xs) b = let c = last_there xs b in (c.0 + 1, omega (arith, c.1), c.2)
+last_there (x ∷ xs) b = let c = last_there xs b in (suc c.0, omega (arith, c.1), c.2)
 
 module _ (p : Problem) (g t t' : List Branch) (b : Branch) (moved : IsPermutation (b ∷ t) t') where
   grown : (a : Branch) → Contains (g ++ t) a → Contains (g ++ t') a

@@ -1,5 +1,6 @@
 -- What a team has found, and what it hands back where it stops.
-use Rattle.std.specs.Prelude.{◌≡◌, ◌⊎◌, List, [], ◌++◌, None, IfSome, IsSome, Contains, flat_map}
+use Rattle.std.specs.Prelude.{◌≡◌, ◌⊎◌, List, [], ◌++◌, None, IfSome, IsSome, Contains, Vec, flat_map}
+use Rattle.std.specs.Global.{Global}
 use Rattle.int_vectors.specs.Vectors.{Each}
 use Rattle.cayley.specs.declared.found.FoundCell.{FoundCell}
 use Rattle.cayley.specs.Problems.{Problem}
@@ -63,5 +64,5 @@ pub record IsTeamStopped (p : Problem) (given : List Branch) (s : TeamStopped) :
   pub untied : IsTieFree p → HasNoTie s.cause
 
 -- before the first offer there is no part, and the given vector comes back; later none is unoffered
-abbrev pub IsHandedBack : Vec Branch → TeamStopped → Type 0
+abbrev pub IsHandedBack : Vec Branch Global → TeamStopped → Type 0
 IsHandedBack branches s = ((s.unoffered ≡ branches) × (s.parts.items ≡ []) × (s.rest ≡ None) × (s.cause ≡ OutOfMemory)) ⊎ (s.unoffered.items ≡ [])

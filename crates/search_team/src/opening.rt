@@ -4,7 +4,6 @@ ghost use Rattle.std.specs.List.{All, range_with_len};
 ghost use Rattle.cayley.specs.Problems.{IsStill};
 ghost use Rattle.branch_pool.specs.declared.rule.TheConstants.{SEATS};
 ghost use Rattle.branch_pool.specs.Seats.{IsSeatOf, all_taken, fresh_seats};
-ghost use Rattle.searcher.specs.declared.expansions.HaltCause.TheVariants.{OutOfMemory};
 ghost use Rattle.search_team.specs.Searchers.{IsFresh, IsJob};
 
 use crate::jobs::Job;
@@ -81,7 +80,7 @@ fn offered(pool: &Pool<Branch>, job: &mut Job, mut branches: Vec<Branch>)
     ensures outs { IsPermutation branches.items (job.new.seat.offered ++ job.new.hand.items) }
     ensures same { (job.new.number ≡ job.old.number) × (job.new.seat.number ≡ job.old.seat.number) × (job.new.seat.deques ≡ job.old.seat.deques) × (all_taken job.new.seat ≡ all_taken job.old.seat) × (job.new.found ≡ job.old.found) × (job.new.solves ≡ job.old.solves) }
     ensures calm { job.new.report ≡ None → job.new.hand.items ≡ [] }
-    ensures told { IfSome job.new.report (λ cause. cause ≡ OutOfMemory) }
+    ensures told { IfSome job.new.report (λ cause. cause ≡ HaltCause.OutOfMemory) }
 {
     while let Some(branch) = branches.pop() {
         if let Err(branch) = pool.offer(&mut job.seat, branch) {

@@ -5,7 +5,6 @@ ghost use Rattle.int_vectors.specs.Vectors.{Each};
 ghost use Rattle.cayley.specs.Problems.{IsStill};
 ghost use Rattle.cayley.specs.Ties.{IsTieFree};
 ghost use Rattle.branch_pool.specs.declared.rule.TheConstants.{SEATS};
-ghost use Rattle.searcher.specs.declared.expansions.HaltCause.TheVariants.{OutOfMemory};
 ghost use Rattle.searcher.specs.Expansions.{ShowsTieAtEnd, HasNoTie};
 ghost use Rattle.searcher.specs.Workings.{FitsWorking};
 ghost use Rattle.searcher.specs.Searches.{IsFound, FindsShare, FindsSize};
@@ -32,7 +31,7 @@ use std::thread::Threads;
 
 // Memory lacked before the first offer.
 fn unbegun(alloc: Global, branches: Vec<Branch>) -> TeamStopped
-    ensures { (result.unoffered ≡ branches) × (result.parts.items ≡ []) × (result.rest ≡ None) × (result.cause ≡ OutOfMemory) }
+    ensures { (result.unoffered ≡ branches) × (result.parts.items ≡ []) × (result.rest ≡ None) × (result.cause ≡ HaltCause.OutOfMemory) }
 {
     TeamStopped {
         cause: HaltCause::OutOfMemory,

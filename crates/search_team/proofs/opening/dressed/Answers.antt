@@ -1,6 +1,6 @@
-use Rattle.std.proofs.Common.{rules, ◌≡◌, ◌+◌, [], ◌++◌, ◌∷◌, length, map, reverse, arith, sym, ap, subst, ◌∙◌}
+use Rattle.std.proofs.Common.{rules, ◌≡◌, ◌+◌, [], ◌++◌, ◌∷◌, length, map, reverse, arith, refl, None, sym, ap, subst, ◌∙◌}
 use Rattle.std.specs.List.{All, range_with_len}
-use Rattle.std.proofs.lemmas.List.Sorted.{All-permutation, IsPermutation-reverse}
+use Rattle.branch_pool.proofs.Dealt.{all_more}
 use Rattle.search_team.specs.declared.jobs.Job.{Job}
 use Rattle.search_team.proofs.Begun.{map_reverse, popped_numbers, popped_seats}
 use Rattle.search_team.proofs.opening.dressed.Goals as goal
@@ -11,9 +11,9 @@ loop-seat-preserved c =
     let pushed = c.push_reserved.ensures.items in
     let popped = c.in-Some.ensures.items in
     record {
-      seats = popped_seats (λ (j : Job). j.seat) c.loop-seat.seats.items c.pop.new.self.items c.in-Some.seat before c.push_reserved.new.self.items _ popped pushed (search rules) c.loop-seat.invariant.seats;
-      numbers = popped_numbers (λ (j : Job). j.number) (length c.pop.new.self.items) (length c.loop-seat.seats.items) before c.push_reserved.new.self.items _ (search rules) pushed (search rules) c.loop-seat.invariant.numbers;
-      fresh = search rules;
+      seats = popped_seats (λ (j : Job). j.seat) c.loop-seat.seats.items c.pop.new.self.items c.in-Some.seat before c.push_reserved.new.self.items _ _ popped pushed (search rules) c.loop-seat.invariant.seats;
+      numbers = popped_numbers (λ (j : Job). j.number) (length c.pop.new.self.items) (length c.loop-seat.seats.items) before c.push_reserved.new.self.items _ _ (search rules) pushed (search rules) c.loop-seat.invariant.numbers;
+      fresh = all_more (λ (j : Job). (j.hand.items ≡ []) × (j.found.items ≡ []) × (j.solves ≡ 0) × (j.report ≡ None)) before c.push_reserved.new.self.items _ pushed c.loop-seat.invariant.fresh (search rules, search rules, refl, refl);
       room = search rules;
       few = search rules;
     }

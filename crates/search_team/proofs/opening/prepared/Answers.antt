@@ -11,7 +11,7 @@ use Rattle.search_team.proofs.opening.prepared.Goals as goal
 pub dressed-requires : goal.dressed-requires
 dressed-requires c =
     let long : length c.in_ok-pool.seats.items ≡ c.args.searchers = ap length c.in_ok-pool.ensures.fresh ∙ length-map-range_with_len (λ k. fresh_seat {B = Branch} c.in_ok-pool.pool.deques k) 1 c.args.searchers in
-    record { few = omega (arith, long, c.requires.1); room = (c.in-Ok-jobs.ensures.items, omega (arith, long, c.in-Ok-jobs.ensures.capacity)) }
+    record { few = omega (arith, long, c.requires.1); room = (c.in-Ok-with_capacity-2.ensures.items, omega (arith, long, c.in-Ok-with_capacity-2.ensures.capacity)) }
 
 pub returns-clause-numbers : goal.returns-clause-numbers
 returns-clause-numbers c =

@@ -2,7 +2,7 @@ use Rattle.search_team.proofs.Starts.{started_still, walked, halted}
 use Rattle.search_team.proofs.paths.search_together.Goals as goal
 
 pub search_shared-requires-clause-still : goal.search_shared-requires-clause-still
-search_shared-requires-clause-still g c = started_still c.args.problem.now c.dim-dim.ensures.valid c.requires.started
+search_shared-requires-clause-still g c = λ κs within. started_still c.args.problem.now c.dim-dim.ensures.valid c.requires.started
 
 pub returns-in-Ok-search_shared : goal.returns-in-Ok-search_shared
 returns-in-Ok-search_shared g c =

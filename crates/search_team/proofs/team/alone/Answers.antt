@@ -1,4 +1,5 @@
 use Rattle.std.proofs.Common.{rules, ◌≡◌, ◌++◌, [], None, refl, sym, ap, ◌∙◌, append-nil}
+use Rattle.search_team.specs.declared.stopping.Part.{Part}
 use Rattle.search_team.specs.Teams.{all_left, all_found}
 use Rattle.search_team.proofs.Summed.{left_snoc, found_snoc}
 use Rattle.search_team.proofs.Stopped.{stopped_with, handed_back}
@@ -14,7 +15,7 @@ returns-in-Err-clause-answer c =
     let before = c.in-Ok.parts.items in
     let after = c.push_reserved.new.self.items in
     let stopped = c.in-Err.stopped in
-    let part = record { left = stopped.left; found = stopped.found.cells } in
+    let part : Part = record { left = stopped.left; found = stopped.found.cells } in
     let h = c.in-Err.ensures.answer in
     let empty : before ≡ [] = c.in-Ok.ensures.items in
     stopped_with c.args.problem.now c.args.branches.items _ stopped.left.items stopped.found.cells.items refl c.new.ensures.items
