@@ -13,7 +13,7 @@ returns-in-Err-clause-answer g c =
     handed_back c.args.problem.now c.args.branches.items c.unbegun.result (ap (λ v. v.items) u.0) u.1 u.2 u.3
 
 pub begun-requires-clause-numbers : goal.begun-requires-clause-numbers
-begun-requires-clause-numbers g c = λ κs within.
+begun-requires-clause-numbers g c =
     let long : length c.in-Ok.room.jobs.items ≡ c.args.searchers = sym (length-map c.in-Ok.room.jobs.items (λ (j : Job). j.number)) ∙ ap length c.in-Ok.ensures.numbers ∙ length-range_with_len 1 c.args.searchers in
     (omega (arith, long, c.requires.seats.0), c.in-Ok.ensures.numbers ∙ ap (range_with_len 1) (sym c.in-Ok.ensures.pool))
 
@@ -24,7 +24,7 @@ index-requires g c =
     omega (arith, long, same, c.requires.seats.0, c.begun.new.jobs.ok.0)
 
 pub ended-requires-clause-numbers : goal.ended-requires-clause-numbers
-ended-requires-clause-numbers g c = λ κs within.
+ended-requires-clause-numbers g c =
     let number : Job → ℕ = λ j. j.number in
     let value : c.as_mut_slice.result.now ≡ c.begun.new.jobs.items = c.as_mut_slice.ensures.value in
     let long : c.begun.new.jobs.len ≡ length c.run_all.new.jobs = c.begun.new.jobs.ok.0 ∙ ap length (sym value) ∙ sym c.run_all.ensures.long in
@@ -36,7 +36,7 @@ ended-requires-clause-numbers g c = λ κs within.
     )
 
 pub ended-requires-clause-room : goal.ended-requires-clause-room
-ended-requires-clause-room g c = λ κs within.
+ended-requires-clause-room g c =
     let value : c.as_mut_slice.result.now ≡ c.begun.new.jobs.items = c.as_mut_slice.ensures.value in
     let long : c.begun.new.jobs.len ≡ length c.run_all.new.jobs = c.begun.new.jobs.ok.0 ∙ ap length (sym value) ∙ sym c.run_all.ensures.long in
     let whole : take c.begun.new.jobs.len (c.run_all.new.jobs ++ drop (length c.run_all.new.jobs) c.begun.new.jobs.items) ≡ c.run_all.new.jobs = take_front c.begun.new.jobs.len c.run_all.new.jobs (drop (length c.run_all.new.jobs) c.begun.new.jobs.items) long in
