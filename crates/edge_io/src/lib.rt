@@ -7,6 +7,7 @@
 
 mod call_plan;
 mod ends;
+mod gates;
 mod memory_sink;
 mod memory_source;
 mod reading;
@@ -16,6 +17,7 @@ mod steady_source;
 mod writing;
 
 pub use ends::{Failed, Sink, Source};
+pub use gates::{Gate, HoldGate, NoGate};
 pub use memory_sink::MemorySink;
 pub use memory_source::MemorySource;
 pub use reading::{ReadStop, read_all};

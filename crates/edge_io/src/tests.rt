@@ -1,6 +1,6 @@
 use crate::{
-    Failed, MemorySink, MemorySource, ReadStop, StdSink, StdSource, SteadySource, read_all,
-    write_all,
+    Failed, Gate, HoldGate, MemorySink, MemorySource, NoGate, ReadStop, StdSink, StdSource,
+    SteadySource, read_all, write_all,
 };
 use std::io::{self, ErrorKind, Read, Write};
 use std::test::Fail;
@@ -149,4 +149,21 @@ fn a_writer_whose_flush_fails(rt: HostRuntime) -> Result<(), Fail> {
     drop(sink);
     assert_eq!(rt; writer.taken.as_slice(), b"mixedcel".as_slice());
     Ok(())
+}
+
+// A held pass goes on where another searcher has passed, or after its tries.
+#[test]
+fn gates_hold_one_pass(rt: HostRuntime) {
+    NoGate.pass(&rt, 1, 1);
+    let alone = HoldGate::new(2, 3);
+    alone.pass(&rt, 1, 1);
+    alone.pass(&rt, 1, 2);
+    alone.pass(&rt, 2, 1);
+    assert!(rt; !alone.met());
+    let two = HoldGate::new(3, 3);
+    two.pass(&rt, 2, 1);
+    two.pass(&rt, 1, 1);
+    assert!(rt; !two.met());
+    two.pass(&rt, 2, 2);
+    assert!(rt; two.met());
 }

@@ -1,0 +1,9 @@
+pub mod Balances
+pub mod Members
+pub mod Expanded
+pub mod Turned
+pub mod Begun
+pub mod Summed
+pub mod Chained
+pub mod Stopped
+pub mod Starts

@@ -1,0 +1,4 @@
+pub mod Accounts
+pub mod Searchers
+pub mod Teams
+pub mod PathSearches
