@@ -8,3 +8,7 @@ pub mod SymbolLoops
 pub mod SmallValues
 pub mod Lengths
 pub mod Negatives
+pub mod Totals
+pub mod Products
+pub mod TreeValues
+pub mod Supports

@@ -12,6 +12,7 @@ use crate::fault::{Kind, fault_at};
 use crate::reading::{Stop, read_polynomial};
 use crate::symbols::symbols;
 use crate::terms::Terms;
+use cayley::DIMENSIONS;
 use int_vectors::IntVec;
 use line_text::{Line, Lines, read_int};
 use std::alloc::Global;
@@ -51,8 +52,6 @@ impl System {
     }
 }
 
-const DIMENSIONS: i128 = 16;
-
 // `system N`
 #[tactic(auto, unfolding(crate::specs::SystemText::dimension_in))]
 fn dimension_of(line: &mut Line) -> Result<usize, TextFault>
@@ -71,7 +70,7 @@ fn dimension_of(line: &mut Line) -> Result<usize, TextFault>
     if word.text != b"system".as_slice() {
         return Err(fault);
     }
-    let Ok(n) = read_int(&size, 1, DIMENSIONS) else {
+    let Ok(n) = read_int(&size, 1, DIMENSIONS as i128) else {
         return Err(fault);
     };
     Ok(n as usize)
