@@ -12,3 +12,6 @@ pub mod Totals
 pub mod Products
 pub mod TreeValues
 pub mod Supports
+pub mod Ranges
+pub mod Systems
+pub mod FilePoints

@@ -5,6 +5,8 @@ pub mod Faults
 pub mod Symbols
 pub mod Trees
 pub mod Values
+pub mod Ranges
 pub mod Steps
 pub mod Reading
 pub mod SystemText
+pub mod Systems

@@ -4,6 +4,7 @@ ghost use Rattle.support_text.specs.Faults.{Gives, series};
 ghost use Rattle.support_text.specs.Words.{words};
 ghost use Rattle.poly_text.specs.SystemText as format;
 ghost use Rattle.poly_text.specs.SystemText.{dimension_at, dimension_in, dimension_of, polynomial_at, polynomial_line, polynomial_next, support_in, support_of, support_view, system_of};
+ghost use Rattle.poly_text.specs.Systems.{AreSupports, IsFaultOf, IsSystem};
 ghost use Rattle.int_vectors.specs.Vectors.{Each};
 ghost use Rattle.int_vectors.specs.Fits.{AllFit};
 
@@ -167,13 +168,9 @@ fn no_line(lines: &mut Lines) -> Result<(), TextFault>
     }
 }
 
-/// Reads a system of polynomials: the supports of their values where the bytes are one, and else the
-/// first faulty line and the number of its [`Kind`].
-///
-/// The first line is `system N`, with N from 1 to 16, and then N polynomials in `x1` to `xN` stand one
-/// a line. A polynomial is built by `+`, `-`, `*`, `^` and parentheses from whole numbers and variables.
+// The lines of a system.
 #[tactic(auto, unfolding(crate::specs::SystemText::system_of, crate::specs::SystemText::system_at))]
-pub fn read_system(alloc: Global, bytes: &[u8]) -> Result<System, TextFault>
+fn read_lines(alloc: Global, bytes: &[u8]) -> Result<System, TextFault>
     ensures { Gives (λ system. system) result (system_of bytes.now) }
 {
     let mut lines = Lines::new(bytes);
@@ -181,4 +178,18 @@ pub fn read_system(alloc: Global, bytes: &[u8]) -> Result<System, TextFault>
     let supports = polynomials(alloc, n, &mut lines)?;
     no_line(&mut lines)?;
     Ok(System { dim: n, supports })
+}
+
+/// Reads a system of polynomials: the supports of their values where the bytes are one, and else the
+/// first faulty line and the number of its [`Kind`].
+///
+/// The first line is `system N`, with N from 1 to 16, and then N polynomials in `x1` to `xN` stand one
+/// a line. A polynomial is built by `+`, `-`, `*`, `^` and parentheses from whole numbers and variables.
+pub fn read_system(alloc: Global, bytes: &[u8]) -> Result<System, TextFault>
+    ensures reading { Gives (λ system. system) result (system_of bytes.now) }
+    ensures system { IfOk result (λ system. IsSystem bytes.now system) }
+    ensures supports { IfOk result (λ system. AreSupports system) }
+    ensures fault { IfErr result (λ e. IsFaultOf bytes.now e) }
+{
+    read_lines(alloc, bytes)
 }
