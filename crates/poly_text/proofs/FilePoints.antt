@@ -1,5 +1,5 @@
 -- The supports that are read are those of a problem file.
-use Rattle.std.proofs.Common.{rules, ◌≡◌, ◌≢◌, ℕ, suc, zero, ◌+◌, ◌<◌, ◌≤◌, ℤ, pos, ◌≤ℤ◌, Bool, true, false, ◌&&◌, List, [], ◌∷◌, ◌++◌, length, map, Option, Some, None, Result, Ok, Err, refl, sym, ap, subst, ◌∙◌, nat_le, unsigned_abs, slice_index_or, arith, if◌then◌else◌}
+use Rattle.std.proofs.Common.{rules, ◌≡◌, ℕ, suc, zero, ◌≤◌, ℤ, pos, Bool, true, false, ◌&&◌, List, [], ◌∷◌, ◌++◌, length, Option, Some, None, Result, Ok, Err, refl, ap, subst, nat_le, unsigned_abs, slice_index_or, arith, if◌then◌else◌}
 use Rattle.std.specs.Prelude.{int_le, codes, bytes_eq, IfOk}
 use Rattle.std.specs.List.{list_all}
 use Rattle.std.proofs.lemmas.Int.{ints}
@@ -11,7 +11,7 @@ use Rattle.line_text.specs.declared.numbers.BadNumber.TheVariants.{Spelling, Out
 use Rattle.line_text.specs.Numbers.{is_number, value_of, number_in}
 use Rattle.line_text.specs.Lines.{Row, lines_of, end_line_of}
 use Rattle.support_text.specs.declared.fault.TextFault.{TextFault}
-use Rattle.support_text.specs.Faults.{Reading, ◌>>=◌, Gives, series}
+use Rattle.support_text.specs.Faults.{Gives, series}
 use Rattle.support_text.specs.Words.{Text, words}
 use Rattle.support_text.proofs.Series.{bind_ok, ok_is}
 use Rattle.poly_text.specs.declared.causes.Cause.TheVariants.{Range, Bound}
@@ -19,13 +19,13 @@ use Rattle.poly_text.specs.declared.symbols.Symbol.{Symbol}
 use Rattle.poly_text.specs.Maps.{Monomial, exponents_cmp}
 use Rattle.poly_text.specs.Bounds.{Verdict, is_exponent, is_small}
 use Rattle.poly_text.specs.Symbols.{symbols_of, symbols_in}
-use Rattle.poly_text.specs.Trees.{meaning}
 use Rattle.poly_text.specs.Steps.{begun, read_from}
 use Rattle.poly_text.specs.Values.{Ascend}
 use Rattle.poly_text.specs.SystemText.{PointSystem, size_of, dimension_in, support_of, support_in, polynomial_line, polynomial_next, polynomial_at, no_line, dimension_at, system_at, system_of}
-use Rattle.poly_text.specs.Systems.{IsSystem, AreSupports}
+use Rattle.poly_text.specs.Systems.{AreSupports}
 use Rattle.poly_text.proofs.Lengths.{HaveLength}
-use Rattle.poly_text.proofs.SmallValues.{read_is_small}
+use Rattle.poly_text.proofs.SmallValues.{left_true, right_true, read_is_small}
+use Rattle.poly_text.proofs.Ranges.{le_of}
 use Rattle.poly_text.proofs.TreeValues.{HasValue}
 use Rattle.poly_text.proofs.Systems.{tree_of, means_of, system_ok, finish, others, system}
 
@@ -37,26 +37,18 @@ pub record AreKept (n : ℕ) (points : List (List ℤ)) : Type 0 where
   pub limits : Each points (λ x. Each x IsCoordinate)
   pub distinct : AreDistinct points
 
-left_of : (a b : Bool) → (a && b) ≡ true → a ≡ true
-left_of true b h = refl
-left_of false b h = absurd cc
-
-right_of : (a b : Bool) → (a && b) ≡ true → b ≡ true
-right_of true b h = h
-right_of false b h = absurd cc
-
 coordinate : (z : ℤ) → is_exponent z ≡ true → IsCoordinate z
 coordinate z h = search rules
 
 coordinates : (xs : List ℤ) → list_all is_exponent xs ≡ true → Each xs IsCoordinate
 coordinates [] h = tt
-coordinates (x ∷ xs) h = (coordinate x (left_of (is_exponent x) (list_all is_exponent xs) h), coordinates xs (right_of (is_exponent x) (list_all is_exponent xs) h))
+coordinates (x ∷ xs) h = (coordinate x (left_true (is_exponent x) (list_all is_exponent xs) h), coordinates xs (right_true (is_exponent x) (list_all is_exponent xs) h))
 
 all_coordinates : (f : List Monomial) → list_all (λ (t : Monomial). list_all is_exponent t.0) f ≡ true → Each (support_of f) (λ x. Each x IsCoordinate)
 all_coordinates [] h = tt
 all_coordinates (t ∷ ts) h = (
-  coordinates t.0 (left_of (list_all is_exponent t.0) (list_all (λ (s : Monomial). list_all is_exponent s.0) ts) h),
-  all_coordinates ts (right_of (list_all is_exponent t.0) (list_all (λ (s : Monomial). list_all is_exponent s.0) ts) h),
+  coordinates t.0 (left_true (list_all is_exponent t.0) (list_all (λ (s : Monomial). list_all is_exponent s.0) ts) h),
+  all_coordinates ts (right_true (list_all is_exponent t.0) (list_all (λ (s : Monomial). list_all is_exponent s.0) ts) h),
 )
 
 all_long : (n : ℕ) (f : List Monomial) → HaveLength n f → Each (support_of f) (λ x. length x ≡ n)
@@ -80,9 +72,9 @@ apart points s k l lt len e =
 kept_of : (n : ℕ) (v : List Monomial) (t : Monomial) (ts : List Monomial) → HasValue n v (t ∷ ts) → is_small (t ∷ ts) ≡ true → AreKept n (support_of (t ∷ ts))
 unfolding is_small
 kept_of n v t ts p h = record {
-  counts = (omega arith, (let a = at_most (length (t ∷ ts)) 1000 (left_of (nat_le (length (t ∷ ts)) 1000) (list_all (λ (s : Monomial). list_all is_exponent s.0) (t ∷ ts)) h) in let b = count_of (t ∷ ts) in omega (arith, a, b)));
+  counts = (omega arith, (let a = at_most (length (t ∷ ts)) 1000 (left_true (nat_le (length (t ∷ ts)) 1000) (list_all (λ (s : Monomial). list_all is_exponent s.0) (t ∷ ts)) h) in let b = count_of (t ∷ ts) in omega (arith, a, b)));
   long = all_long n (t ∷ ts) p.long;
-  limits = all_coordinates (t ∷ ts) (right_of (nat_le (length (t ∷ ts)) 1000) (list_all (λ (s : Monomial). list_all is_exponent s.0) (t ∷ ts)) h);
+  limits = all_coordinates (t ∷ ts) (right_true (nat_le (length (t ∷ ts)) 1000) (list_all (λ (s : Monomial). list_all is_exponent s.0) (t ∷ ts)) h);
   distinct = apart (support_of (t ∷ ts)) p.is_map.ascending;
 }
 
@@ -135,9 +127,6 @@ size_inside true true true v n e = (refl, refl, some_is (unsigned_abs v) n e)
 size_inside true true false v n e = absurd cc
 size_inside true false high v n e = absurd cc
 size_inside false low high v n e = absurd cc
-
-le_of : (x y : ℤ) → int_le x y ≡ true → x ≤ℤ y
-le_of x y h = grind (arith, ints)
 
 size_within : (d : Text) (n : ℕ) → size_of (number_in (pos 1) (pos 16) d) ≡ Some n → (1 ≤ n) × (n ≤ 16)
 unfolding number_in

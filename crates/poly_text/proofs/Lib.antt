@@ -15,3 +15,4 @@ pub mod Supports
 pub mod Ranges
 pub mod Systems
 pub mod FilePoints
+pub mod Exactly

@@ -1,14 +1,14 @@
 -- A number out of its limits is what makes a polynomial mean `Range`.
-use Rattle.std.proofs.Common.{rules, ◌≡◌, ℕ, suc, zero, ℤ, pos, neg_ℤ, ◌≤ℤ◌, Bool, true, false, ◌&&◌, List, [], ◌∷◌, map, Option, Some, None, Ok, Err, refl, sym, ap, ◌∙◌, arith, if◌then◌else◌}
+use Rattle.std.proofs.Common.{◌≡◌, ℕ, suc, zero, ℤ, pos, neg_ℤ, ◌≤ℤ◌, Bool, true, false, ◌&&◌, List, [], ◌∷◌, map, Option, Some, None, Ok, Err, refl, arith, if◌then◌else◌}
 use Rattle.std.specs.Prelude.{int_le}
 use Rattle.std.proofs.lemmas.Int.{ints}
-use Rattle.poly_text.specs.declared.causes.Cause.{Cause}
 use Rattle.poly_text.specs.declared.causes.Cause.TheVariants.{Range, Bound}
 use Rattle.poly_text.specs.declared.reading.Base.TheVariants.{Named, Valued}
 use Rattle.poly_text.specs.Maps.{Monomial, plus_term, signed, products, constant, power_of_variable}
 use Rattle.poly_text.specs.Bounds.{Verdict, ◌>>=◌, with_term, collected, is_small, bounded, added, multiplied, raised}
-use Rattle.poly_text.specs.Trees.{Polynomial, Term, Factor, Atom, first, more, one_factor, product, plain, power, digits, variable, enclosed, both, number, variable_power, value_power, exponent, base_power, base_value, within, minus_of, meaning, meaning_term, meaning_factor, base}
-use Rattle.poly_text.specs.Ranges.{IsNumber, IsVariable, IsBetween, IsExponentOf, InRange, TermInRange, FactorInRange, AtomInRange}
+use Rattle.poly_text.specs.Trees.{Polynomial, Term, Factor, first, more, one_factor, product, plain, power, digits, variable, enclosed, both, number, variable_power, exponent, base_power, within, minus_of, meaning, meaning_term, meaning_factor}
+use Rattle.poly_text.proofs.SmallValues.{left_true, right_true}
+use Rattle.poly_text.specs.Ranges.{IsNumber, IsVariable, IsBetween, InRange, TermInRange, FactorInRange}
 
 -- P holds, or the numbers are out of their limits
 abbrev pub Ranged : Type 0 → Verdict (List Monomial) → Type 0
@@ -71,18 +71,10 @@ ranged_both P Q op (Ok f) (Ok g) h p q = ranged_sized (P × Q) (op f g) (h f g) 
 
 -- ---- tests
 
-left_of : (a b : Bool) → (a && b) ≡ true → a ≡ true
-left_of true b h = refl
-left_of false b h = absurd cc
-
-right_of : (a b : Bool) → (a && b) ≡ true → b ≡ true
-right_of true b h = h
-right_of false b h = absurd cc
-
 both_of : (a b : Bool) → a ≡ true → b ≡ true → (a && b) ≡ true
 both_of a b p q = rw (p, q) refl
 
-le_of : (x y : ℤ) → int_le x y ≡ true → x ≤ℤ y
+pub le_of : (x y : ℤ) → int_le x y ≡ true → x ≤ℤ y
 le_of x y h = grind (arith, ints)
 
 le_to : (x y : ℤ) → x ≤ℤ y → int_le x y ≡ true
@@ -104,8 +96,8 @@ ranged_variable n (Some i) k =
     let c = int_le (neg_ℤ (pos 1000000)) k in
     let d = int_le k (pos 1000000) in
     ranged_test (IsVariable n (Some i) × IsBetween (neg_ℤ (pos 1000000)) (pos 1000000) (Some k)) ((a && b) && (c && d)) (Ok (power_of_variable n i k))
-    (λ h. let p = left_of (a && b) (c && d) h in let q = right_of (a && b) (c && d) h in
-    ((le_of (pos 1) i (left_of a b p), le_of i (pos n) (right_of a b p)), (le_of (neg_ℤ (pos 1000000)) k (left_of c d q), le_of k (pos 1000000) (right_of c d q))))
+    (λ h. let p = left_true (a && b) (c && d) h in let q = right_true (a && b) (c && d) h in
+    ((le_of (pos 1) i (left_true a b p), le_of i (pos n) (right_true a b p)), (le_of (neg_ℤ (pos 1000000)) k (left_true c d q), le_of k (pos 1000000) (right_true c d q))))
     (λ h. both_of (a && b) (c && d) (both_of a b (le_to (pos 1) i h.0.0) (le_to i (pos n) h.0.1)) (both_of c d (le_to (neg_ℤ (pos 1000000)) k h.1.0) (le_to k (pos 1000000) h.1.1)))
 
 ranged_plain : (n : ℕ) (i : Option ℤ) → Ranged (IsVariable n i) (variable_power n i (pos 1))
@@ -127,7 +119,7 @@ ranged_valued P n v (Some k) p =
     let a = int_le (pos 0) k in
     let b = int_le k (pos 16) in
     ranged_test (P × IsBetween (pos 0) (pos 16) (Some k)) (a && b) _
-    (λ h. ranged_bind P (IsBetween (pos 0) (pos 16) (Some k)) v _ (le_of (pos 0) k (left_of a b h), le_of k (pos 16) (right_of a b h)) p (λ f. sized_raised n f _))
+    (λ h. ranged_bind P (IsBetween (pos 0) (pos 16) (Some k)) v _ (le_of (pos 0) k (left_true a b h), le_of k (pos 16) (right_true a b h)) p (λ f. sized_raised n f _))
     (λ h. both_of a b (le_to (pos 0) k h.1.0) (le_to k (pos 16) h.1.1))
 
 within_if : (P : Type 0) (b : Bool) (f : List Monomial) → P → Ranged P (if b then Ok f else Err Bound)

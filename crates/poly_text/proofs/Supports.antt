@@ -1,18 +1,16 @@
 -- The lists of exponents of a map are the support of its value.
-use Rattle.std.proofs.Common.{◌≡◌, ◌≢◌, ℕ, suc, zero, ◌<◌, ℤ, pos, Bool, true, false, cond, List, [], ◌∷◌, map, length, Option, Some, None, refl, sym, ap, ◌∙◌, arith, is_eq, slice_index_or}
+use Rattle.std.proofs.Common.{◌≡◌, ◌≢◌, ℕ, suc, zero, ◌<◌, ℤ, pos, Bool, true, false, cond, List, [], ◌∷◌, length, Option, Some, None, refl, sym, ap, ◌∙◌, arith, slice_index_or}
 use Rattle.std.specs.Option.{unwrap_or, is_some}
-use Rattle.std.specs.List.{Contains}
-use Rattle.std.specs.Cmp.{IsTotalOrder, IsEquivalence, eq_by_cmp_equiv, int_cmp_total}
+use Rattle.std.specs.Cmp.{IsEquivalence, eq_by_cmp_equiv, int_cmp_total}
 use Rattle.std.specs.Ordering.{eq_by_cmp}
 use Rattle.std.specs.Cmp.Lexicographic.{lists_total}
 use Rattle.std.specs.Map.{lookup, keys_of}
 use Rattle.std.specs.BTreeMap.{is_at}
 use Rattle.std.proofs.lemmas.Map.Views.{Contains-keys_from_lookup, IsSome-lookup_from_Contains}
-use Rattle.int_vectors.specs.Vectors.{Each}
 use Rattle.poly_text.specs.Maps.{Monomial, exponents_cmp, coefficient}
-use Rattle.poly_text.specs.Values.{total_at, IsSupport}
+use Rattle.poly_text.specs.Values.{IsSupport}
 use Rattle.poly_text.proofs.Lengths.{HaveLength}
-use Rattle.poly_text.proofs.Totals.{IsMap, HasNumbers, same_is, coefficient_total}
+use Rattle.poly_text.proofs.Totals.{HasNumbers, same_is, coefficient_total}
 use Rattle.poly_text.proofs.TreeValues.{HasValue}
 
 laws : IsEquivalence (eq_by_cmp exponents_cmp)

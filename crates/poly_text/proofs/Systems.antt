@@ -1,11 +1,8 @@
 -- What is read of bytes is a system, and each fault is that of the first faulty line.
-use Rattle.std.proofs.Common.{◌≡◌, ◌≢◌, ◌⊎◌, inl, inr, ℕ, suc, zero, ◌+◌, ◌<◌, ℤ, List, [], ◌∷◌, ◌++◌, length, map, Option, Some, None, Result, Ok, Err, refl, sym, ap, subst, ◌∙◌, append_assoc, append-nil, arith}
+use Rattle.std.proofs.Common.{◌≡◌, ◌⊎◌, inl, inr, ℕ, suc, zero, ◌+◌, ◌<◌, ℤ, List, [], ◌∷◌, ◌++◌, length, Option, Some, None, Ok, Err, refl, sym, ap, subst, ◌∙◌, append_assoc, append-nil, arith}
 use Rattle.line_text.specs.Lines.{Row, lines_of, end_line_of}
 use Rattle.support_text.specs.declared.fault.FormatFault.{FormatFault}
-use Rattle.std.specs.Prelude.{IfOk, IfErr}
-use Rattle.support_text.specs.declared.fault.TextFault.{TextFault}
-use Rattle.support_text.specs.declared.fault.TextFault.TheVariants.{Format, OutOfMemory}
-use Rattle.support_text.specs.Faults.{Reading, ◌>>=◌, Gives, series}
+use Rattle.support_text.specs.Faults.{Reading, ◌>>=◌, series}
 use Rattle.support_text.specs.Words.{Text, words}
 use Rattle.support_text.proofs.Series.{bind_ok, ok_is}
 use Rattle.poly_text.specs.declared.causes.Cause.TheVariants.{Range as Past_range, Bound as Past_bound}
@@ -18,10 +15,10 @@ use Rattle.poly_text.specs.Bounds.{Verdict}
 use Rattle.poly_text.specs.Symbols.{symbols_of, symbols_in}
 use Rattle.poly_text.specs.Trees.{Polynomial, written, meaning}
 use Rattle.poly_text.specs.Steps.{begun, read_from}
-use Rattle.poly_text.specs.Values.{IsSupport, value}
+use Rattle.poly_text.specs.Values.{value}
 use Rattle.poly_text.specs.Ranges.{InRange}
-use Rattle.poly_text.specs.SystemText.{PointSystem, dimension_in, dimension_of, dimension_at, support_of, support_in, polynomial_line, polynomial_next, polynomial_at, no_line, system_at, system_of}
-use Rattle.poly_text.specs.Systems.{Writes, BreaksBound, IsPolynomial, IsWrong, ArePolynomials, IsSystem, FaultBehind, IsFaultOfPolynomials, FaultOfFirst, IsFirstFault, IsFaultOf}
+use Rattle.poly_text.specs.SystemText.{PointSystem, dimension_in, dimension_of, dimension_at, support_in, polynomial_line, polynomial_next, polynomial_at, no_line, system_at, system_of}
+use Rattle.poly_text.specs.Systems.{Writes, BreaksBound, IsPolynomial, IsWrong, ArePolynomials, IsSystem, FaultBehind, FaultOfFirst, IsFirstFault}
 use Rattle.poly_text.proofs.WrittenReads.{written_reads}
 use Rattle.poly_text.proofs.ReadWrites.{read_writes, one_value}
 use Rattle.poly_text.proofs.TreeValues.{Means, means_polynomial}
@@ -48,14 +45,14 @@ tree_of n symbols v e =
     (q.0, q.1, one_value (meaning n 0 q.0) v (sym (written_reads n q.0) ∙ ap (λ (l : List Symbol). read_from n l (begun n)) q.1 ∙ e))
 
 -- what a line of a polynomial comes to
-abbrev Told : ℕ → ℕ → List Text → Reading (List (List ℤ)) → Type 0
+abbrev pub Told : ℕ → ℕ → List Text → Reading (List (List ℤ)) → Type 0
 Told n line ws (Ok points) = IsPolynomial n ws points
 Told n line ws (Err f) = (kind : Kind) × IsWrong n ws kind × (f ≡ fault line kind)
 
 abbrev some_symbols : List Symbol → Option (List Symbol)
 some_symbols xs = Some xs
 
-not_past_range : (n : ℕ) (p : Polynomial) (v : Verdict (List Monomial)) → meaning n 0 p ≡ v → Ranged (InRange n p) v
+pub not_past_range : (n : ℕ) (p : Polynomial) (v : Verdict (List Monomial)) → meaning n 0 p ≡ v → Ranged (InRange n p) v
 not_past_range n p v e = subst (Ranged (InRange n p)) e (ranged_polynomial p n 0)
 
 pub means_of : (n : ℕ) (p : Polynomial) (v : Verdict (List Monomial)) → meaning n 0 p ≡ v → Means n (value n p) v
@@ -90,7 +87,7 @@ symbols_told : (n line : ℕ) (ws : List Text) (o : Option (List Symbol)) → sy
 symbols_told n line ws None s = (Grammar, (λ p w. absurd cc), refl)
 symbols_told n line ws (Some xs) s = read_told n line ws xs (read_from n xs (begun n)) s refl
 
-line_told : (n line : ℕ) (ws : List Text) → Told n line ws (polynomial_line n line ws)
+pub line_told : (n line : ℕ) (ws : List Text) → Told n line ws (polynomial_line n line ws)
 unfolding polynomial_line
 line_told n line ws = symbols_told n line ws (symbols_of ws) refl
 
@@ -191,7 +188,7 @@ unfolding no_line
 end_err end n count [] f h e = absurd cc
 end_err end n count (row ∷ rows) f h e = inr (h, sym (err_is {A = Unit {0}} (fault row.number Extra) f e))
 
-are_count : (n : ℕ) (rows : List Row) (ss : List (List (List ℤ))) → ArePolynomials n rows ss → length rows ≡ length ss
+pub are_count : (n : ℕ) (rows : List Row) (ss : List (List (List ℤ))) → ArePolynomials n rows ss → length rows ≡ length ss
 unfolding ArePolynomials
 are_count n [] [] h = refl
 are_count n [] (s ∷ ss) h = absurd h
@@ -266,14 +263,3 @@ system_err bytes f e = elim (bind_err (dimension_at (end_line_of bytes) (lines_o
   | inl p ↦ inl (first_err (end_line_of bytes) (lines_of bytes) f p)
   | inr d ↦ let line = first_ok (end_line_of bytes) (lines_of bytes) d.0 d.1 in others_err bytes f d.0 line.0 line.1 line.2 d.2
 ]
-
--- ---- the answer
-
-pub answer_ok : (bytes : List ℕ) (r : Result PointSystem TextFault) → Gives (λ s. s) r (system_of bytes) → IfOk r (λ s. IsSystem bytes s)
-answer_ok bytes (Ok s) h = system_ok bytes s h
-answer_ok bytes (Err e) h = tt
-
-pub answer_err : (bytes : List ℕ) (r : Result PointSystem TextFault) → Gives (λ s. s) r (system_of bytes) → IfErr r (λ e. IsFaultOf bytes e)
-answer_err bytes (Ok s) h = tt
-answer_err bytes (Err OutOfMemory) h = tt
-answer_err bytes (Err (Format f)) h = system_err bytes f h

@@ -1,5 +1,5 @@
 -- The coefficients of a sum of terms, and of a map to which terms are added.
-use Rattle.std.proofs.Common.{rules, ◌≡◌, ◌≢◌, ℕ, suc, zero, ◌+◌, ℤ, pos, ◌+ℤ◌, Bool, true, false, cond, List, [], ◌∷◌, ◌++◌, map, length, Option, Some, None, refl, sym, ap, ap₂, subst, ◌∙◌, int_cmp, int_eq, arith, if◌then◌else◌, is_eq}
+use Rattle.std.proofs.Common.{rules, ◌≡◌, ◌≢◌, ℤ, pos, ◌+ℤ◌, Bool, true, false, cond, List, [], ◌∷◌, refl, sym, ap, subst, ◌∙◌, int_eq, arith, if◌then◌else◌, is_eq}
 use Rattle.std.proofs.lemmas.Int.{ints}
 use Rattle.std.specs.List.{AllByRecursion}
 use Rattle.std.specs.List.Sorted.{IsStrictlySortedBy}
@@ -7,15 +7,14 @@ use Rattle.std.specs.declared.cmp.Ordering.{Ordering}
 use Rattle.std.specs.declared.cmp.Ordering.TheVariants.{Less, Equal, Greater}
 use Rattle.std.specs.Ordering.{match_ordering, ordering_reverse}
 use Rattle.std.specs.Cmp.{IsTotalOrder, int_cmp_total}
-use Rattle.std.specs.Cmp.Lexicographic.{slice_cmp, lists_total}
-use Rattle.std.specs.Map.{lookup, remove_entry, keys_of}
+use Rattle.std.specs.Cmp.Lexicographic.{lists_total}
+use Rattle.std.specs.Map.{remove_entry, keys_of}
 use Rattle.std.specs.BTreeMap.{is_at, insert_entry}
-use Rattle.std.specs.Option.{unwrap_or}
 use Rattle.std.proofs.lemmas.Map.Keys.{sorted_head, sorted_tail}
 use Rattle.cayley.proofs.Refusals.Repeats.{lists_equal, equal_lists}
 use Rattle.int_vectors.specs.Vectors.{Each}
-use Rattle.poly_text.specs.Maps.{Monomial, exponents_cmp, coefficient, with_coefficient, plus_term, signed}
-use Rattle.poly_text.specs.Values.{are_same, number_at, total_at, Ascend}
+use Rattle.poly_text.specs.Maps.{Monomial, exponents_cmp, coefficient, with_coefficient, plus_term}
+use Rattle.poly_text.specs.Values.{are_same, number_at, total_at}
 
 abbrev R : List ℤ → List ℤ → Ordering
 R xs ys = exponents_cmp xs ys

@@ -1,15 +1,13 @@
 -- What is worked out of a polynomial has the coefficients of its value.
-use Rattle.std.proofs.Common.{◌≡◌, ◌≢◌, ℕ, suc, zero, ◌+◌, ◌<◌, ℤ, pos, neg_ℤ, ◌+ℤ◌, Bool, true, false, List, [], ◌∷◌, ◌++◌, map, length, Option, Some, None, Ok, Err, refl, sym, ap, ap₂, subst, ◌∙◌, arith, if◌then◌else◌}
+use Rattle.std.proofs.Common.{◌≡◌, ℕ, suc, zero, ℤ, pos, neg_ℤ, ◌+ℤ◌, Bool, true, false, List, [], ◌∷◌, ◌++◌, map, length, Option, Some, None, Ok, Err, refl, sym, ap, ap₂, subst, ◌∙◌, arith, if◌then◌else◌}
 use Rattle.std.proofs.lemmas.Int.{ints}
-use Rattle.int_vectors.specs.Vectors.{Each}
 use Rattle.poly_text.specs.declared.causes.Cause.{Cause}
 use Rattle.poly_text.specs.declared.causes.Cause.TheVariants.{Range, Bound}
-use Rattle.poly_text.specs.declared.reading.Base.{Base}
 use Rattle.poly_text.specs.declared.reading.Base.TheVariants.{Named, Valued}
 use Rattle.poly_text.specs.Maps.{Monomial, plus_term, signed, products, exponents_of, constant, power_of_variable}
 use Rattle.poly_text.specs.Bounds.{Verdict, ◌>>=◌, collected, is_small, bounded, added, multiplied, raised}
-use Rattle.poly_text.specs.Trees.{Polynomial, Term, Factor, Atom, first, more, one_factor, product, plain, power, digits, variable, enclosed, both, number, variable_power, exponent, base_power, base_value, within, minus_of, meaning, meaning_term, meaning_factor, base}
-use Rattle.poly_text.specs.Values.{total_at, number_value, variable_value, times_itself, whole_power, value, value_of_term, value_of_factor, value_of_atom}
+use Rattle.poly_text.specs.Trees.{Polynomial, Term, Factor, first, more, one_factor, product, plain, power, digits, variable, enclosed, both, number, variable_power, exponent, base_power, within, minus_of, meaning, meaning_term, meaning_factor}
+use Rattle.poly_text.specs.Values.{total_at, number_value, variable_value, times_itself, whole_power, value, value_of_term, value_of_factor}
 use Rattle.poly_text.proofs.Lengths.{HaveLength, Holds, lengths_signed, lengths_append, lengths_products, length_exponents, lengths_added, lengths_multiplied, lengths_more}
 use Rattle.poly_text.proofs.Totals.{IsMap, one_more, nil_is_map}
 use Rattle.poly_text.proofs.Products.{if_ok, bind_is, collected_is, total_append, total_signed, Same, products_same, one_times}

@@ -1,5 +1,5 @@
 -- Which bytes are a system, and which line is the first faulty one.
-use Rattle.std.specs.Prelude.{◌≡◌, ◌≢◌, ◌⊎◌, ◌<◌, ◌≤◌, ℕ, List, [], ◌∷◌, ◌++◌, length, ℤ, Option, Some, None, Err}
+use Rattle.std.specs.Prelude.{◌≡◌, ◌≢◌, ◌⊎◌, ◌<◌, ◌≤◌, ℕ, List, [], ◌∷◌, ◌++◌, length, ℤ, Some, None, Result, Ok, Err}
 use Rattle.int_vectors.specs.Vectors.{Each}
 use Rattle.cayley.specs.declared.limits.TheConstants.{DIMENSIONS, POINTS}
 use Rattle.cayley.specs.Valid.{AreDistinct, IsCoordinate}
@@ -87,10 +87,11 @@ FaultOfFirst end (row ∷ rows) f = (dimension_in (words row) ≡ None) × (f �
 abbrev pub IsFirstFault : List ℕ → FormatFault → Type 0
 IsFirstFault bytes f = FaultOfFirst (end_line_of bytes) (lines_of bytes) f ⊎ IsFaultOfPolynomials bytes f
 
--- why a text gave nothing
-abbrev pub IsFaultOf : List ℕ → TextFault → Type 0
-IsFaultOf bytes OutOfMemory = Unit {0}
-IsFaultOf bytes (Format f) = IsFirstFault bytes f
+-- memory sufficed
+abbrev pub HadMemory : {A : Type 0} → Result A TextFault → Type 0
+HadMemory (Ok x) = Unit {0}
+HadMemory (Err (Format f)) = Unit {0}
+HadMemory (Err OutOfMemory) = ⊥
 
 -- what a problem file asks of its points: how many they are, how long, within their limits, and none twice
 pub record AreSupports (system : PointSystem) : Type 0 where

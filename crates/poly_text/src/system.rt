@@ -1,10 +1,11 @@
 // Systems of polynomials, read from their bytes.
-ghost use Rattle.std.specs.Prelude.{◌≡◌, ◌≢◌, [], map, IfOk, IfErr, Some, Ok, Err};
+ghost use Rattle.std.specs.Prelude.{◌≡◌, ◌≢◌, ◌↔◌, [], map, IfOk, IfErr, Some, Ok, Err};
 ghost use Rattle.support_text.specs.Faults.{Gives, series};
 ghost use Rattle.support_text.specs.Words.{words};
 ghost use Rattle.poly_text.specs.SystemText as format;
-ghost use Rattle.poly_text.specs.SystemText.{dimension_at, dimension_in, dimension_of, polynomial_at, polynomial_line, polynomial_next, support_in, support_of, support_view, system_of};
-ghost use Rattle.poly_text.specs.Systems.{AreSupports, IsFaultOf, IsSystem};
+ghost use Rattle.poly_text.specs.SystemText.{PointSystem, dimension_at, dimension_in, dimension_of, polynomial_at, polynomial_line, polynomial_next, support_in, support_of, support_view, system_of};
+ghost use Rattle.poly_text.specs.Systems.{AreSupports, HadMemory, IsFirstFault, IsSystem};
+ghost use Rattle.support_text.specs.declared.fault.FormatFault.{FormatFault};
 ghost use Rattle.int_vectors.specs.Vectors.{Each};
 ghost use Rattle.int_vectors.specs.Fits.{AllFit};
 
@@ -187,9 +188,9 @@ fn read_lines(alloc: Global, bytes: &[u8]) -> Result<System, TextFault>
 /// a line. A polynomial is built by `+`, `-`, `*`, `^` and parentheses from whole numbers and variables.
 pub fn read_system(alloc: Global, bytes: &[u8]) -> Result<System, TextFault>
     ensures reading { Gives (λ system. system) result (system_of bytes.now) }
-    ensures system { IfOk result (λ system. IsSystem bytes.now system) }
-    ensures supports { IfOk result (λ system. AreSupports system) }
-    ensures fault { IfErr result (λ e. IsFaultOf bytes.now e) }
+    ensures system { HadMemory result → (s : PointSystem) → (result ≡ Ok s) ↔ IsSystem bytes.now s }
+    ensures supports { IfOk result (λ s. AreSupports s) }
+    ensures fault { HadMemory result → (f : FormatFault) → (result ≡ Err (TextFault.Format f)) ↔ IsFirstFault bytes.now f }
 {
     read_lines(alloc, bytes)
 }
