@@ -45,7 +45,7 @@ lengths_if : (n : ℕ) (b : Bool) (f g : List Monomial) → HaveLength n f → H
 lengths_if n true f g h e = h
 lengths_if n false f g h e = e
 
-lengths_more : (n : ℕ) (f : List Monomial) (t : Monomial) → HaveLength n f → length t.0 ≡ n → HaveLength n (plus_term f t)
+pub lengths_more : (n : ℕ) (f : List Monomial) (t : Monomial) → HaveLength n f → length t.0 ≡ n → HaveLength n (plus_term f t)
 unfolding plus_term with_coefficient
 lengths_more n f t h e =
     lengths_if n (int_eq (coefficient t.0 f +ℤ t.1) (pos 0)) (remove_entry (is_at (exponents_cmp t.0)) f) (insert_entry exponents_cmp f t.0 (coefficient t.0 f +ℤ t.1))
@@ -65,7 +65,7 @@ lengths_collected n [] f h e = h
 lengths_collected n (t ∷ ts) f h e =
     holds_bind (HaveLength n) (HaveLength n) (with_term f t) (λ g. collected g ts) (holds_if (HaveLength n) _ (plus_term f t) Bound (lengths_more n f t h e.0)) (λ g k. lengths_collected n ts g k e.1)
 
-lengths_signed : (n : ℕ) (minus : Bool) (f : List Monomial) → HaveLength n f → HaveLength n (map (signed minus) f)
+pub lengths_signed : (n : ℕ) (minus : Bool) (f : List Monomial) → HaveLength n f → HaveLength n (map (signed minus) f)
 lengths_signed n minus [] h = tt
 lengths_signed n minus (t ∷ ts) h = (h.0, lengths_signed n minus ts h.1)
 
@@ -79,26 +79,26 @@ lengths_row : (n : ℕ) (s : Monomial) (g : List Monomial) → length s.0 ≡ n 
 lengths_row n s [] h e = tt
 lengths_row n s (t ∷ ts) h e = (length_of_sum n s.0 t.0 h e.0, lengths_row n s ts h e.1)
 
-lengths_append : (n : ℕ) (f g : List Monomial) → HaveLength n f → HaveLength n g → HaveLength n (f ++ g)
+pub lengths_append : (n : ℕ) (f g : List Monomial) → HaveLength n f → HaveLength n g → HaveLength n (f ++ g)
 lengths_append n [] g h e = e
 lengths_append n (t ∷ ts) g h e = (h.0, lengths_append n ts g h.1 e)
 
-lengths_products : (n : ℕ) (f g : List Monomial) → HaveLength n f → HaveLength n g → HaveLength n (products f g)
+pub lengths_products : (n : ℕ) (f g : List Monomial) → HaveLength n f → HaveLength n g → HaveLength n (products f g)
 lengths_products n [] g h e = tt
 lengths_products n (s ∷ ss) g h e = lengths_append n (map (times s) g) (products ss g) (lengths_row n s g h.0 e) (lengths_products n ss g h.1 e)
 
 lengths_bounded : (n : ℕ) (f : List Monomial) → HaveLength n f → Holds (HaveLength n) (bounded f)
 lengths_bounded n f h = holds_if (HaveLength n) (is_small f) f Bound h
 
-lengths_added : (n : ℕ) (minus : Bool) (f g : List Monomial) → HaveLength n f → HaveLength n g → Holds (HaveLength n) (added minus f g)
+pub lengths_added : (n : ℕ) (minus : Bool) (f g : List Monomial) → HaveLength n f → HaveLength n g → Holds (HaveLength n) (added minus f g)
 unfolding added
 lengths_added n minus f g h e = holds_bind (HaveLength n) (HaveLength n) (collected f (map (signed minus) g)) bounded (lengths_collected n (map (signed minus) g) f h (lengths_signed n minus g e)) (λ k p. lengths_bounded n k p)
 
-lengths_multiplied : (n : ℕ) (f g : List Monomial) → HaveLength n f → HaveLength n g → Holds (HaveLength n) (multiplied f g)
+pub lengths_multiplied : (n : ℕ) (f g : List Monomial) → HaveLength n f → HaveLength n g → Holds (HaveLength n) (multiplied f g)
 unfolding multiplied
 lengths_multiplied n f g h e = holds_bind (HaveLength n) (HaveLength n) (collected [] (products f g)) bounded (lengths_collected n (products f g) [] tt (lengths_products n f g h e)) (λ k p. lengths_bounded n k p)
 
-length_exponents : (n : ℕ) (i k : ℤ) → length (exponents_of n i k) ≡ n
+pub length_exponents : (n : ℕ) (i k : ℤ) → length (exponents_of n i k) ≡ n
 length_exponents n i k = length-map-range_with_len (λ j. if int_eq i (pos (j + 1)) then k else pos 0) 0 n
 
 lengths_constant : (n : ℕ) (z : ℤ) → HaveLength n (constant n z)

@@ -8,3 +8,11 @@ pub mod SymbolLoops
 pub mod SmallValues
 pub mod Lengths
 pub mod Negatives
+pub mod Totals
+pub mod Products
+pub mod TreeValues
+pub mod Supports
+pub mod Ranges
+pub mod Systems
+pub mod FilePoints
+pub mod Exactly

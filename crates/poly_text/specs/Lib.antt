@@ -4,6 +4,9 @@ pub mod Collecting
 pub mod Faults
 pub mod Symbols
 pub mod Trees
+pub mod Values
+pub mod Ranges
 pub mod Steps
 pub mod Reading
 pub mod SystemText
+pub mod Systems

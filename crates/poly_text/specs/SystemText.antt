@@ -1,6 +1,7 @@
 -- Systems of polynomials: what their lines mean, the first faulty line and the kind of its fault.
 use Rattle.std.specs.Prelude.{ℕ, List, [], ◌∷◌, map, ℤ, pos, codes, bytes_eq, unsigned_abs, Option, Some, None, Result, Ok, Err, if◌then◌else◌}
 use Rattle.std.specs.Global.{Vec}
+use Rattle.cayley.specs.declared.limits.TheConstants.{DIMENSIONS}
 use Rattle.line_text.specs.declared.numbers.BadNumber.{BadNumber}
 use Rattle.line_text.specs.Numbers.{number_in}
 use Rattle.line_text.specs.Lines.{Row, lines_of, end_line_of}
@@ -27,7 +28,7 @@ size_of (Err e) = None
 unfoldable pub dimension_in : List Text → Option ℕ
 dimension_in [] = None
 dimension_in (w ∷ []) = None
-dimension_in (w ∷ d ∷ []) = if bytes_eq w (codes "system") then size_of (number_in (pos 1) (pos 16) d) else None
+dimension_in (w ∷ d ∷ []) = if bytes_eq w (codes "system") then size_of (number_in (pos 1) (pos DIMENSIONS) d) else None
 dimension_in (w ∷ d ∷ e ∷ ws) = None
 
 abbrev pub dimension_of : ℕ → Option ℕ → Reading ℕ

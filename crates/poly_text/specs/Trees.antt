@@ -1,6 +1,8 @@
 -- Polynomials as the grammar writes them, and what they mean.
 use Rattle.std.specs.Prelude.{ℕ, suc, ℤ, pos, neg_ℤ, int_le, unsigned_abs, nat_le, Bool, true, false, ◌&&◌, List, [], ◌∷◌, ◌++◌, Option, Some, None, Ok, Err, if◌then◌else◌}
+use Rattle.cayley.specs.declared.limits.TheConstants.{COORDINATE}
 use Rattle.poly_text.specs.declared.causes.Cause.TheVariants.{Range, Bound}
+use Rattle.poly_text.specs.declared.limits.TheConstants.{OPEN, POWER}
 use Rattle.poly_text.specs.declared.reading.Base.{Base}
 use Rattle.poly_text.specs.declared.reading.Base.TheVariants.{Named, Valued}
 use Rattle.poly_text.specs.declared.symbols.Symbol.{Symbol}
@@ -73,13 +75,13 @@ number n None = Err Range
 -- the variable is one of x1 to xn, the exponent from -1,000,000 to 1,000,000
 abbrev pub variable_power : ℕ → Option ℤ → ℤ → Verdict (List Monomial)
 variable_power n (Some i) k =
-    if (int_le (pos 1) i && int_le i (pos n)) && (int_le (neg_ℤ (pos 1000000)) k && int_le k (pos 1000000)) then Ok (power_of_variable n i k)
+    if (int_le (pos 1) i && int_le i (pos n)) && (int_le (neg_ℤ (pos COORDINATE)) k && int_le k (pos COORDINATE)) then Ok (power_of_variable n i k)
     else Err Range
 variable_power n None k = Err Range
 
 -- the exponent is from 0 to 16
 abbrev pub value_power : ℕ → Verdict (List Monomial) → ℤ → Verdict (List Monomial)
-value_power n v k = if int_le (pos 0) k && int_le k (pos 16) then (v >>= λ f. raised n f (unsigned_abs k)) else Err Range
+value_power n v k = if int_le (pos 0) k && int_le k (pos POWER) then (v >>= λ f. raised n f (unsigned_abs k)) else Err Range
 
 abbrev pub exponent : Bool → Option ℤ → Option ℤ
 exponent minus None = None
@@ -97,7 +99,7 @@ base_value n (Valued v) = v
 -- at most 64 parentheses are open
 abbrev pub within : ℕ → Verdict (List Monomial) → Verdict (List Monomial)
 within depth (Err c) = Err c
-within depth (Ok f) = if nat_le depth 64 then Ok f else Err Bound
+within depth (Ok f) = if nat_le depth OPEN then Ok f else Err Bound
 
 abbrev pub minus_of : Option Bool → Bool
 minus_of None = false

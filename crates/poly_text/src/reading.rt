@@ -11,16 +11,12 @@ ghost use Rattle.poly_text.specs.Reading.{Follows, state_of, same};
 
 use crate::causes::Cause;
 use crate::collected::Collected;
+use crate::limits::{OPEN, POWER};
 use crate::symbols::Symbol;
 use crate::terms::{Terms, added, constant, multiplied, power_of_variable, raised};
+use cayley::COORDINATE;
 use std::alloc::Global;
 use wide_int::{OutOfMemory, difference};
-
-const OPEN: usize = 64;
-
-const EXPONENT: i128 = 1_000_000;
-
-const POWER: i128 = 16;
 
 // What stands before the next symbol.
 #[derive(Clone, Copy)]
@@ -29,7 +25,7 @@ pub(crate) enum Place {
     Start,
     // a sign or `*`
     Operator,
-    // an base
+    // an atom
     Atom,
     // `^`
     Power,
@@ -103,7 +99,8 @@ fn variable(alloc: Global, n: usize, i: Option<i128>, k: i128) -> Result<Verdict
     let Some(i) = i else {
         return Ok(Err(Cause::Range));
     };
-    if i < 1 || (n as i128) < i || k < -EXPONENT || EXPONENT < k {
+    let limit = COORDINATE as i128;
+    if i < 1 || (n as i128) < i || k < -limit || limit < k {
         return Ok(Err(Cause::Range));
     }
     let terms = power_of_variable(alloc, n, i, k)?;
@@ -113,7 +110,7 @@ fn variable(alloc: Global, n: usize, i: Option<i128>, k: i128) -> Result<Verdict
 fn value_power(alloc: Global, n: usize, value: Verdict, k: i128) -> Result<Verdict, OutOfMemory>
     ensures { IfOk result (λ v. v ≡ trees.value_power n value k) }
 {
-    if k < 0 || POWER < k {
+    if k < 0 || (POWER as i128) < k {
         return Ok(Err(Cause::Range));
     }
     let terms = match value {

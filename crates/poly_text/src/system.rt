@@ -1,9 +1,11 @@
 // Systems of polynomials, read from their bytes.
-ghost use Rattle.std.specs.Prelude.{◌≡◌, ◌≢◌, [], map, IfOk, IfErr, Some, Ok, Err};
+ghost use Rattle.std.specs.Prelude.{◌≡◌, ◌≢◌, ◌↔◌, [], map, IfOk, IfErr, Some, Ok, Err};
 ghost use Rattle.support_text.specs.Faults.{Gives, series};
 ghost use Rattle.support_text.specs.Words.{words};
 ghost use Rattle.poly_text.specs.SystemText as format;
-ghost use Rattle.poly_text.specs.SystemText.{dimension_at, dimension_in, dimension_of, polynomial_at, polynomial_line, polynomial_next, support_in, support_of, support_view, system_of};
+ghost use Rattle.poly_text.specs.SystemText.{PointSystem, dimension_at, dimension_in, dimension_of, polynomial_at, polynomial_line, polynomial_next, support_in, support_of, support_view, system_of};
+ghost use Rattle.poly_text.specs.Systems.{AreSupports, HadMemory, IsFirstFault, IsSystem};
+ghost use Rattle.support_text.specs.declared.fault.FormatFault.{FormatFault};
 ghost use Rattle.int_vectors.specs.Vectors.{Each};
 ghost use Rattle.int_vectors.specs.Fits.{AllFit};
 
@@ -12,6 +14,7 @@ use crate::fault::{Kind, fault_at};
 use crate::reading::{Stop, read_polynomial};
 use crate::symbols::symbols;
 use crate::terms::Terms;
+use cayley::DIMENSIONS;
 use int_vectors::IntVec;
 use line_text::{Line, Lines, read_int};
 use std::alloc::Global;
@@ -51,8 +54,6 @@ impl System {
     }
 }
 
-const DIMENSIONS: i128 = 16;
-
 // `system N`
 #[tactic(auto, unfolding(crate::specs::SystemText::dimension_in))]
 fn dimension_of(line: &mut Line) -> Result<usize, TextFault>
@@ -71,7 +72,7 @@ fn dimension_of(line: &mut Line) -> Result<usize, TextFault>
     if word.text != b"system".as_slice() {
         return Err(fault);
     }
-    let Ok(n) = read_int(&size, 1, DIMENSIONS) else {
+    let Ok(n) = read_int(&size, 1, DIMENSIONS as i128) else {
         return Err(fault);
     };
     Ok(n as usize)
@@ -168,13 +169,9 @@ fn no_line(lines: &mut Lines) -> Result<(), TextFault>
     }
 }
 
-/// Reads a system of polynomials: the supports of their values where the bytes are one, and else the
-/// first faulty line and the number of its [`Kind`].
-///
-/// The first line is `system N`, with N from 1 to 16, and then N polynomials in `x1` to `xN` stand one
-/// a line. A polynomial is built by `+`, `-`, `*`, `^` and parentheses from whole numbers and variables.
+// The lines of a system.
 #[tactic(auto, unfolding(crate::specs::SystemText::system_of, crate::specs::SystemText::system_at))]
-pub fn read_system(alloc: Global, bytes: &[u8]) -> Result<System, TextFault>
+fn read_lines(alloc: Global, bytes: &[u8]) -> Result<System, TextFault>
     ensures { Gives (λ system. system) result (system_of bytes.now) }
 {
     let mut lines = Lines::new(bytes);
@@ -182,4 +179,18 @@ pub fn read_system(alloc: Global, bytes: &[u8]) -> Result<System, TextFault>
     let supports = polynomials(alloc, n, &mut lines)?;
     no_line(&mut lines)?;
     Ok(System { dim: n, supports })
+}
+
+/// Reads a system of polynomials: the supports of their values where the bytes are one, and else the
+/// first faulty line and the number of its [`Kind`].
+///
+/// The first line is `system N`, with N from 1 to 16, and then N polynomials in `x1` to `xN` stand one
+/// a line. A polynomial is built by `+`, `-`, `*`, `^` and parentheses from whole numbers and variables.
+pub fn read_system(alloc: Global, bytes: &[u8]) -> Result<System, TextFault>
+    ensures reading { Gives (λ system. system) result (system_of bytes.now) }
+    ensures system { HadMemory result → (s : PointSystem) → (result ≡ Ok s) ↔ IsSystem bytes.now s }
+    ensures supports { IfOk result (λ s. AreSupports s) }
+    ensures fault { HadMemory result → (f : FormatFault) → (result ≡ Err (TextFault.Format f)) ↔ IsFirstFault bytes.now f }
+{
+    read_lines(alloc, bytes)
 }

@@ -45,6 +45,19 @@ fn three_sums(rt: HostRuntime) -> Result<(), Fail> {
     Ok(())
 }
 
+// katsura in three unknowns
+#[test]
+fn katsura(rt: HostRuntime) -> Result<(), Fail> {
+    let text = "system 3\nx1 + 2*x2 + 2*x3 - 1\nx1^2 + 2*x2^2 + 2*x3^2 - x1\n2*x1*x2 + 2*x2*x3 - x2\n";
+    let found = supports(rt.alloc(), text)?;
+    let want: [i128; 47] = [
+        0, 0, 0, 99, 0, 0, 1, 99, 0, 1, 0, 99, 1, 0, 0, 99, 77, 0, 0, 2, 99, 0, 2, 0, 99, 1, 0, 0,
+        99, 2, 0, 0, 99, 77, 0, 1, 0, 99, 0, 1, 1, 99, 1, 1, 0, 99, 77,
+    ];
+    assert_eq!(rt; found.as_slice(), want.as_slice());
+    Ok(())
+}
+
 #[test]
 fn one_point_is_left(rt: HostRuntime) -> Result<(), Fail> {
     let texts = [
@@ -167,5 +180,26 @@ fn collected_like_terms(rt: HostRuntime) -> Result<(), Fail> {
     // a partial sum is past the bound, the whole sum isn't
     let text = "system 1\n(170141183460469231731687303715884105727*x1 + 1)*(x1 + 1) + 1";
     assert_eq!(rt; kind_of(rt.alloc(), text.as_bytes()), 24);
+    Ok(())
+}
+
+// 1 + x1 + .. + x1^999
+fn thousand_terms(text: &mut Vec<u8>) -> Result<(), Fail> {
+    text.extend_from_slice(b"((1 + x1)*(1 + x1^2)*(1 + x1^4)")?;
+    text.extend_from_slice(b"*(1 + x1^8 + x1^16 + x1^24 + x1^32)")?;
+    text.extend_from_slice(b"*(1 + x1^40 + x1^80 + x1^120 + x1^160)")?;
+    text.extend_from_slice(b"*(1 + x1^200 + x1^400 + x1^600 + x1^800))")?;
+    Ok(())
+}
+
+#[test]
+fn a_thousand_terms(rt: HostRuntime) -> Result<(), Fail> {
+    let mut text = Vec::from_slice(rt.alloc(), b"system 1\n")?;
+    thousand_terms(&mut text)?;
+    assert_eq!(rt; kind_of(rt.alloc(), text.as_slice()), 0);
+    // 1,000,000 products, which make 1,999 terms
+    text.push(b'*')?;
+    thousand_terms(&mut text)?;
+    assert_eq!(rt; kind_of(rt.alloc(), text.as_slice()), 24);
     Ok(())
 }
