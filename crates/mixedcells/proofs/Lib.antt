@@ -3,6 +3,7 @@ pub mod Ended
 pub mod Readings
 pub mod Checks
 pub mod Powered
+pub mod Systems
 pub mod Exact
 pub mod Listings
 pub mod FileWorkings
@@ -11,3 +12,5 @@ pub mod Judged
 pub mod Walking
 pub mod AlongPaths
 pub mod Teams
+pub mod QuietFiles
+pub mod LiftedSystems

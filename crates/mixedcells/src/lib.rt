@@ -5,6 +5,7 @@ mod along;
 mod lines;
 mod outcome;
 mod replies;
+mod systems;
 mod top;
 mod walks;
 mod words;

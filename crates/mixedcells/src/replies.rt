@@ -11,6 +11,7 @@ ghost use Rattle.mixedcells.specs.Families.{IsFit, IsInLimits};
 use crate::along;
 use crate::lines::{format_line, no_line, overflow_cell, overflow_line, too_many_line, yes_line};
 use crate::outcome::Outcome;
+use crate::systems;
 use crate::words::{Command, Family};
 use cayley::{LiftFile, Problem};
 use cell_certificate::{CheckFault, Verdict};
@@ -45,6 +46,7 @@ pub fn answer(alloc: Global, command: Command, bytes: &[u8]) -> Result<Reply, Ou
         Command::Check => check(alloc, bytes),
         Command::Generic => generic(alloc, bytes),
         Command::Powers => powers(alloc, bytes),
+        Command::Poly(seed) => systems::poly(alloc, seed, bytes),
         Command::Make(family, seed) => made(alloc, family, seed),
     }
 }
@@ -93,8 +95,8 @@ fn generic(alloc: Global, bytes: &[u8]) -> Result<Reply, OutOfMemory>
     }
 }
 
-// The reply to a fault of the input's format.
-fn refusal(alloc: Global, fault: FormatFault) -> Result<Reply, OutOfMemory>
+/// The reply to a fault of the input's format.
+pub fn refusal(alloc: Global, fault: FormatFault) -> Result<Reply, OutOfMemory>
     ensures { IfOk result (λ r. TellsFault fault r.outcome r.text.items) }
 {
     let text = format_line(alloc, fault.line, fault.kind)?;

@@ -51,11 +51,11 @@ lengths_more n f t h e =
     lengths_if n (int_eq (coefficient t.0 f +ℤ t.1) (pos 0)) (remove_entry (is_at (exponents_cmp t.0)) f) (insert_entry exponents_cmp f t.0 (coefficient t.0 f +ℤ t.1))
     (lengths_removed n (is_at (exponents_cmp t.0)) f h) (lengths_inserted n t.0 (coefficient t.0 f +ℤ t.1) f e h)
 
-holds_if : {A : Type 0} (P : A → Type 0) (b : Bool) (x : A) (c : Cause) → P x → Holds P (if b then Ok x else Err c)
+pub holds_if : {A : Type 0} (P : A → Type 0) (b : Bool) (x : A) (c : Cause) → P x → Holds P (if b then Ok x else Err c)
 holds_if P true x c h = h
 holds_if P false x c h = tt
 
-holds_bind : {A B : Type 0} (P : A → Type 0) (Q : B → Type 0) (v : Verdict A) (f : A → Verdict B) → Holds P v → ((x : A) → P x → Holds Q (f x)) → Holds Q (v >>= f)
+pub holds_bind : {A B : Type 0} (P : A → Type 0) (Q : B → Type 0) (v : Verdict A) (f : A → Verdict B) → Holds P v → ((x : A) → P x → Holds Q (f x)) → Holds Q (v >>= f)
 holds_bind P Q (Ok x) f h g = g x h
 holds_bind P Q (Err c) f h g = tt
 

@@ -8,3 +8,5 @@ pub mod SymbolLoops
 pub mod SmallValues
 pub mod Lengths
 pub mod Negatives
+pub mod Ascending
+pub mod Liftable

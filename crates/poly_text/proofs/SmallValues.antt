@@ -1,9 +1,10 @@
 -- A value that was read keeps the bounds.
-use Rattle.std.proofs.Common.{rules, ◌≡◌, ℕ, ℤ, Bool, true, false, ◌&&◌, ◌≤◌, List, [], ◌∷◌, nat_le, length, unsigned_abs, Ok, Err, Option, Some, None, refl, sym, subst, if◌then◌else◌, arith}
+use Rattle.std.proofs.Common.{rules, ◌≡◌, ℕ, ℤ, Bool, true, false, ◌&&◌, ◌≤◌, List, [], ◌∷◌, map, nat_le, length, unsigned_abs, Ok, Err, Option, Some, None, refl, sym, subst, if◌then◌else◌, arith}
 use Rattle.std.specs.List.{list_all}
 use Rattle.int_vectors.specs.Vectors.{Each}
 use Rattle.int_vectors.specs.Fits.{AllFit}
 use Rattle.wide_int.specs.Whole.{FitsWhole}
+use Rattle.cayley.specs.Valid.{IsCoordinate}
 use Rattle.poly_text.specs.declared.causes.Cause.TheVariants.{Range, Bound}
 use Rattle.poly_text.specs.declared.symbols.Symbol.{Symbol}
 use Rattle.poly_text.specs.declared.reading.Part.{Part}
@@ -96,3 +97,29 @@ terms_fit (t ∷ ts) h = (
 pub small_fit : (f : List Monomial) → is_small f ≡ true → Each f (λ (t : Monomial). AllFit t.0)
 unfolding is_small
 small_fit f h = terms_fit f (right_true (nat_le (length f) 1000) (list_all (λ (t : Monomial). list_all is_exponent t.0) f) h)
+
+-- ---- and are coordinates of a problem
+
+exponent_limit : (z : ℤ) → is_exponent z ≡ true → IsCoordinate z
+exponent_limit z h = search rules
+
+exponent_limits : (xs : List ℤ) → list_all is_exponent xs ≡ true → Each xs IsCoordinate
+exponent_limits [] h = tt
+exponent_limits (x ∷ xs) h = (exponent_limit x (left_true (is_exponent x) (list_all is_exponent xs) h), exponent_limits xs (right_true (is_exponent x) (list_all is_exponent xs) h))
+
+term_limits : (f : List Monomial) → list_all (λ (t : Monomial). list_all is_exponent t.0) f ≡ true → Each (map (λ (t : Monomial). t.0) f) (λ x. Each x IsCoordinate)
+term_limits [] h = tt
+term_limits (t ∷ ts) h = (
+  exponent_limits t.0 (left_true (list_all is_exponent t.0) (list_all (λ (t : Monomial). list_all is_exponent t.0) ts) h),
+  term_limits ts (right_true (list_all is_exponent t.0) (list_all (λ (t : Monomial). list_all is_exponent t.0) ts) h),
+)
+
+few_terms : (k : ℕ) → nat_le k 1000 ≡ true → k ≤ 1000
+few_terms k h = search rules
+
+pub small_limits : (f : List Monomial) → is_small f ≡ true → (length f ≤ 1000) × Each (map (λ (t : Monomial). t.0) f) (λ x. Each x IsCoordinate)
+unfolding is_small
+small_limits f h = (
+  few_terms (length f) (left_true (nat_le (length f) 1000) (list_all (λ (t : Monomial). list_all is_exponent t.0) f) h),
+  term_limits f (right_true (nat_le (length f) 1000) (list_all (λ (t : Monomial). list_all is_exponent t.0) f) h),
+)

@@ -7,3 +7,4 @@ pub mod Trees
 pub mod Steps
 pub mod Reading
 pub mod SystemText
+pub mod Liftable

@@ -6,6 +6,7 @@ mod collected;
 mod exponents;
 mod fault;
 mod laws;
+mod lifting;
 mod reading;
 mod symbols;
 mod system;
@@ -13,6 +14,7 @@ mod terms;
 
 pub use fault::Kind;
 pub use laws::{polynomials_are_read, values_keep_limits};
+pub use lifting::systems_are_liftable;
 pub use system::{System, read_system};
 
 #[cfg(test)]
