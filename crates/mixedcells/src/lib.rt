@@ -17,4 +17,6 @@ pub use words::{Command, Family};
 #[cfg(test)]
 mod along_tests;
 #[cfg(test)]
+mod system_tests;
+#[cfg(test)]
 mod tests;
