@@ -20,7 +20,7 @@ use Rattle.elimination_bound.specs.Bounds.{front_bound, column_bound, product, s
 use Rattle.elimination_bound.specs.Laws.{FitsSolutions}
 use Rattle.elimination_bound.proofs.Ahead.{solutions_fit_ahead, sums_fit}
 use Rattle.elimination_bound.proofs.ByFactors.{bounds_by_factors, fits_by_bounds}
-use Rattle.cell_bound.specs.Ranges.{FitsWhole, RowsFit, PointBelow, PointsBelow, AreNear, HasRange, HaveRanges, CellFits, CellsFit}
+use Rattle.cell_bound.specs.Ranges.{FitsWhole, RowsFit, PointBelow, PointsBelow, AreNear, HasRange, HaveRanges, FitsByRanges, CellFits, CellsFit}
 use Rattle.cell_bound.specs.OwnLines.{FitOwnLines}
 use Rattle.cell_bound.proofs.RowRanges.{rows_within}
 use Rattle.cell_bound.proofs.Circuits.{circuit_fits}
