@@ -8,11 +8,10 @@ ghost use Rattle.mixedcells.specs.Words.{needs_team};
 ghost use Rattle.mixedcells.specs.Families as families;
 ghost use Rattle.mixedcells.specs.Families.{IsFit, IsInLimits};
 
-use crate::along;
 use crate::lines::{format_line, no_line, overflow_cell, overflow_line, too_many_line, yes_line};
 use crate::outcome::Outcome;
-use crate::systems;
 use crate::words::{Command, Family};
+use crate::{along, systems};
 use cayley::{LiftFile, Problem};
 use cell_certificate::{CheckFault, Verdict};
 use family_gen::{cyclic, scatter};

@@ -47,11 +47,7 @@ fn systems_and_their_faults(rt: HostRuntime) -> Result<(), Fail> {
 
 #[test]
 fn poly_takes_a_seed(rt: HostRuntime) -> Result<(), Fail> {
-    let rows = [
-        "poly",
-        "poly --seed 0",
-        "poly --seed=18446744073709551615",
-    ];
+    let rows = ["poly", "poly --seed 0", "poly --seed=18446744073709551615"];
     for line in rows {
         let (status, written, left) = run_line(rt.alloc(), line)?;
         assert_eq!(rt; status, 3);

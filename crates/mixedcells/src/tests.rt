@@ -38,11 +38,7 @@ fn status_of(
 
 // A source of these bytes that doesn't fail.
 fn source_of(alloc: Global, bytes: &[u8]) -> Result<MemorySource, Fail> {
-    Ok(MemorySource::new(
-        bytes.to_vec(alloc)?,
-        65_536,
-        Vec::new(alloc),
-    ))
+    Ok(MemorySource::new(bytes.to_vec(alloc)?, 65_536, Vec::new(alloc)))
 }
 
 // The status of a run of one word on bytes, and what it wrote.

@@ -138,7 +138,7 @@ unfolding system_of system_at
 liftable bytes system e =
     let last = end_line_of bytes in
     let n = bind_ok (dimension_at last (lines_of bytes))
-        (λ (d : ℕ × List Row). series d.0 (polynomial_at d.0 last) [] d.1 >>= λ (s : List (List (List ℤ)) × List Row). no_line s.1 >>= λ u. system_made d.0 s.0) system e in
+    (λ (d : ℕ × List Row). series d.0 (polynomial_at d.0 last) [] d.1 >>= λ (s : List (List (List ℤ)) × List Row). no_line s.1 >>= λ u. system_made d.0 s.0) system e in
     let s = bind_ok (series n.0.0 (polynomial_at n.0.0 last) [] n.0.1) (λ (s : List (List (List ℤ)) × List Row). no_line s.1 >>= λ u. system_made n.0.0 s.0) system n.2 in
     let u = bind_ok (no_line s.0.1) (λ u. system_made n.0.0 s.0.0) system s.2 in
     let w = first_within last (lines_of bytes) n.0 n.1 in
