@@ -34,7 +34,7 @@ use Rattle.mixedcells.proofs.CommandLine.Words.{one_meaning}
 use Rattle.mixedcells.proofs.Readings.{ok_once, err_once, not_both}
 use Rattle.mixedcells.proofs.Checks.{one_check_reply}
 use Rattle.mixedcells.proofs.Powered.{one_powers_reply}
-use Rattle.mixedcells.proofs.Systems.{one_system_reply}
+use Rattle.mixedcells.proofs.SystemReplies.{one_system_reply}
 
 three_ways : {P : Type 0} (m n : ℕ) → (m < n → P) → (m ≡ n → P) → (n < m → P) → P
 three_ways m n f g h = elim (dec_lt m n) [ yes p ↦ f p | no q ↦ elim (ℕ_discrete m n) [ yes e ↦ g e | no r ↦ h (omega arith) ] ]

@@ -3,7 +3,7 @@ pub mod Ended
 pub mod Readings
 pub mod Checks
 pub mod Powered
-pub mod Systems
+pub mod SystemReplies
 pub mod Exact
 pub mod Listings
 pub mod FileWorkings

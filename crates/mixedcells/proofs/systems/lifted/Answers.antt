@@ -2,7 +2,7 @@ use Rattle.std.proofs.Common.{◌≡◌, ◌∙◌, ◌≤◌, ℕ, length, refl
 use Rattle.int_vectors.specs.Vectors.{Each}
 use Rattle.cayley.specs.Valid.{IsCoordinate, AreDistinct}
 use Rattle.cayley.proofs.Lists.Each.{each_weaker}
-use Rattle.mixedcells.proofs.Systems.{stored, stored_count, lifted_is}
+use Rattle.mixedcells.proofs.SystemReplies.{stored, stored_count, lifted_is}
 use Rattle.mixedcells.proofs.systems.lifted.Goals as goal
 
 pub lift-requires : goal.lift-requires
