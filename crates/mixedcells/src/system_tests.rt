@@ -22,10 +22,7 @@ fn systems_and_their_faults(rt: HostRuntime) -> Result<(), Fail> {
         (
             KATSURA,
             0,
-            b"mixedcells 1\ndim 3\nsupport 4\n0 0 0 : 7100271\n0 0 1 : 8546438\n0 1 0 : 10877665\n1 0 0 : 6423381\nsupport 4\n0 0 2 : 13345398\n0 2 0 : 8397185\n1 0 0 : 9293493\n2 0 0 : 1097553\nsupport 3\n0 1 0 : 14088266
-\n0 1 1 : 3329271
-\n1 1 0 : 12511875
-\nend\n",
+            b"mixedcells 1\ndim 3\nsupport 4\n0 0 0 : 7100271\n0 0 1 : 8546438\n0 1 0 : 10877665\n1 0 0 : 6423381\nsupport 4\n0 0 2 : 13345398\n0 2 0 : 8397185\n1 0 0 : 9293493\n2 0 0 : 1097553\nsupport 3\n0 1 0 : 14088266\n0 1 1 : 3329271\n1 1 0 : 12511875\nend\n",
         ),
         (b"system 1\nx1 - x1\n", 3, b"format: line 2 kind 25\n"),
         (b"system 1\nx1^\n", 3, b"format: line 2 kind 22\n"),

@@ -1,5 +1,5 @@
 use crate::top::run_alone;
-use edge_io::{MemorySink, MemorySource, read_all};
+use edge_io::{MemorySink, MemorySource, Source, SteadySource, read_all};
 use std::alloc::Global;
 use std::test::Fail;
 
@@ -27,24 +27,19 @@ fn word(alloc: Global, text: &str) -> Result<Vec<String>, Fail> {
 }
 
 // The status of a run.
-fn status_of(
+fn status_of<S: Source>(
     alloc: Global,
     words: &[String],
-    source: &mut MemorySource,
+    source: &mut S,
     sink: &mut MemorySink,
 ) -> u8 {
     run_alone(alloc, words, source, sink).status()
 }
 
-// A source of these bytes that doesn't fail.
-fn source_of(alloc: Global, bytes: &[u8]) -> Result<MemorySource, Fail> {
-    Ok(MemorySource::new(bytes.to_vec(alloc)?, 65_536, Vec::new(alloc)))
-}
-
 // The status of a run of one word on bytes, and what it wrote.
 pub(crate) fn run(alloc: Global, text: &str, input: &[u8]) -> Result<(u8, Vec<u8>), Fail> {
     let words = word(alloc, text)?;
-    let mut source = source_of(alloc, input)?;
+    let mut source = SteadySource::new(input.to_vec(alloc)?);
     let Ok(mut sink) = MemorySink::new(alloc, 4096, 1000, Vec::new(alloc)) else {
         return Err(Fail::from("out of memory"));
     };
@@ -230,7 +225,7 @@ fn a_failed_read_writes_nothing(rt: HostRuntime) -> Result<(), Fail> {
 #[test]
 fn a_failed_write_leaves_a_prefix(rt: HostRuntime) -> Result<(), Fail> {
     let words = word(rt.alloc(), "plain")?;
-    let mut source = source_of(rt.alloc(), SEGMENT)?;
+    let mut source = SteadySource::new(SEGMENT.to_vec(rt.alloc())?);
     let failing = [3].to_vec(rt.alloc())?;
     let Ok(mut sink) = MemorySink::new(rt.alloc(), 1000, 4, failing) else {
         return Err(Fail::from("out of memory"));
@@ -371,7 +366,7 @@ fn words_of(alloc: Global, line: &str) -> Result<Vec<String>, Fail> {
 // The status of a run of a line's words, what it wrote, and how many bytes of five it left in the source.
 pub(crate) fn run_line(alloc: Global, line: &str) -> Result<(u8, Vec<u8>, usize), Fail> {
     let words = words_of(alloc, line)?;
-    let mut source = source_of(alloc, b"dim 1")?;
+    let mut source = SteadySource::new(b"dim 1".to_vec(alloc)?);
     let Ok(mut sink) = MemorySink::new(alloc, 65_536, 65_536, Vec::new(alloc)) else {
         return Err(Fail::from("out of memory"));
     };
