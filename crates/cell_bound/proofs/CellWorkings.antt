@@ -20,7 +20,8 @@ use Rattle.elimination_bound.specs.Bounds.{front_bound, column_bound, product, s
 use Rattle.elimination_bound.specs.Laws.{FitsSolutions}
 use Rattle.elimination_bound.proofs.Ahead.{solutions_fit_ahead, sums_fit}
 use Rattle.elimination_bound.proofs.ByFactors.{bounds_by_factors, fits_by_bounds}
-use Rattle.cell_bound.specs.Ranges.{FitsWhole, RowsFit, PointBelow, PointsBelow, AreNear, HasRange, HaveRanges, CellFits, CellsFit}
+use Rattle.cell_bound.specs.Ranges.{FitsWhole, RowsFit, PointBelow, PointsBelow, AreNear, HasRange, HaveRanges, FitsByRanges, CellFits, CellsFit}
+use Rattle.cell_bound.specs.OwnLines.{FitOwnLines}
 use Rattle.cell_bound.proofs.RowRanges.{rows_within}
 use Rattle.cell_bound.proofs.Circuits.{circuit_fits}
 use Rattle.cayley.specs.Dependencies.{support_at, pair_at, IsFurtherAt}
@@ -116,6 +117,11 @@ module _ (p : Problem) (cell : Cell) (front further : ℕ) (well : IsProblem p) 
         (((t.0, t.1 n (omega arith), t.1 (suc n) (omega arith)), walls_fit made e w, (λ v. circuits)), circuits)),
   )
 
+  -- the lines of the pairs' own second points
+  pub own_lines_fit : EachPair p.supports cell (λ s a b. PointBelow front further (point_at s a) (point_at s b)) → FitOwnLines p cell
+  own_lines_fit w made e = each_pair (λ s a b. PointBelow front further (point_at s a) (point_at s b)) (λ s a b. FitsWall (normal_of_rows made) (point_at s a) (point_at s b)) p.supports cell
+      (λ s a b below. wall_fits made e (point_at s a) (point_at s b) below) w
+
 pub cell_fits : CellFits
 cell_fits p cell front further well of fits w = fits_whole p cell front further well of fits w
 
@@ -128,8 +134,16 @@ near_below m t f h a c some near b =
     let z = mul-le m 1 m h (omega arith) some in
     (omega (arith, d, x, b), omega (arith, d, y, b), omega (arith, d, z, b))
 
-range_below : (m t f h : ℕ) (s : List Point) (a b : ℕ) → 1 ≤ h → HasRange f h s → InRange s a b → m * h + f * t < 2 ^ 127 → (c : ℕ) → IsFurther s a b c → PointBelow m t (point_at s a) (point_at s c)
-range_below m t f h s a b some near r l c further = near_below m t f h (point_at s a) (point_at s c) some (near a c r.0 (omega (arith, r.1, r.2)) further.0 further.1) l
+-- the second point of a pair and each further point are near the first
+abbrev AllBelow : ℕ → ℕ → List Point → ℕ → ℕ → Type 0
+AllBelow m t s a b = PointBelow m t (point_at s a) (point_at s b) × ((c : ℕ) → IsFurther s a b c → PointBelow m t (point_at s a) (point_at s c))
+
+range_below : (m t f h : ℕ) (s : List Point) (a b : ℕ) → 1 ≤ h → HasRange f h s → InRange s a b → m * h + f * t < 2 ^ 127 → AllBelow m t s a b
+range_below m t f h s a b some near r l =
+    let first : a ≤ length s = omega (arith, r.1, r.2) in (
+      near_below m t f h (point_at s a) (point_at s b) some (near a b r.0 first (omega (arith, r.0, r.1)) r.2) l,
+      (λ c further. near_below m t f h (point_at s a) (point_at s c) some (near a c r.0 first further.0 further.1) l),
+    )
 
 -- ---- all cells
 total : (fs hs : List ℕ) → 2 * (product fs * max (product fs) (sum_over hs fs)) < 2 ^ 127 → 2 * (product fs * sum_over hs fs) < 2 ^ 127
@@ -139,7 +153,7 @@ total fs hs f =
 
 -- q is the product of the numbers before
 supports_below : (m t q : ℕ) (gs ks : List ℕ) (supports : List (List Point)) (cell : Cell) → 2 * (m * t) < 2 ^ 127 → 1 ≤ q → q * product gs ≡ m → q * sum_over ks gs ≤ t
-    → HaveRanges gs ks supports → EachPair supports cell InRange → EachPair supports cell (λ s a b. (c : ℕ) → IsFurther s a b c → PointBelow m t (point_at s a) (point_at s c))
+    → HaveRanges gs ks supports → EachPair supports cell InRange → EachPair supports cell (AllBelow m t)
 supports_below m t q [] [] [] [] f one e l w o = tt
 supports_below m t q [] [] [] (x ∷ cell) f one e l w o = absurd o
 supports_below m t q [] [] (s ∷ supports) cell f one e l w o = absurd w
@@ -164,7 +178,20 @@ supports_below m t q (g ∷ gs) (k ∷ ks) (s ∷ supports) (x ∷ cell) f one e
     next : (q g k m s t : ℕ) → q * (k * m + g * s) ≤ t → q * g * s ≤ t
     next q g k m s t h = omega (arith, h)
 
+module _ (p : Problem) (fs hs : List ℕ) (well : IsProblem p) (fits : FitsByRanges fs hs p) (cell : Cell) (of : IsOf p cell) where
+  rows_fit : RowsFit (product fs) (sum_over hs fs) p cell
+  rows_fit = (bounds_by_factors p.dimension fs hs (edge_rows p cell) (rows_within p.dimension 0 fs hs p.supports cell fits.0 well.points of), fits.1)
+
+  all_below : EachPair p.supports cell (AllBelow (product fs) (sum_over hs fs))
+  all_below = supports_below (product fs) (sum_over hs fs) 1 fs hs p.supports cell (total fs hs fits.1) (omega arith) (omega arith) (omega arith) fits.0 of
+
+  whole_fits : FitsWhole p cell
+  whole_fits = fits_whole p cell (product fs) (sum_over hs fs) well of rows_fit
+      (each_pair (AllBelow (product fs) (sum_over hs fs)) (λ s a b. (c : ℕ) → IsFurther s a b c → PointBelow (product fs) (sum_over hs fs) (point_at s a) (point_at s c)) p.supports cell (λ s a b h. h.1) all_below)
+
+  pub own_lines : FitOwnLines p cell
+  own_lines = own_lines_fit p cell (product fs) (sum_over hs fs) well of rows_fit
+      (each_pair (AllBelow (product fs) (sum_over hs fs)) (λ s a b. PointBelow (product fs) (sum_over hs fs) (point_at s a) (point_at s b)) p.supports cell (λ s a b h. h.0) all_below)
+
 pub cells_fit : CellsFit
-cells_fit p fs hs well fits cell of =
-    fits_whole p cell (product fs) (sum_over hs fs) well of (bounds_by_factors p.dimension fs hs (edge_rows p cell) (rows_within p.dimension 0 fs hs p.supports cell fits.0 well.points of), fits.1)
-    (supports_below (product fs) (sum_over hs fs) 1 fs hs p.supports cell (total fs hs fits.1) (omega arith) (omega arith) (omega arith) fits.0 of)
+cells_fit = whole_fits

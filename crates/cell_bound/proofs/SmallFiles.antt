@@ -20,8 +20,9 @@ use Rattle.start_system.proofs.Started.Heights.{own_left_out, other_first, valid
 use Rattle.elimination_bound.specs.Bounds.{product, sum_over}
 use Rattle.cell_bound.specs.Ranges.{AreNear, HasRange, HaveRanges, FitsByRanges}
 use Rattle.cell_bound.specs.Quiet.{IsNarrow, IsQuiet, QuietLaw}
+use Rattle.cell_bound.specs.OwnLines.{QuietOwnLaw}
 use Rattle.cell_bound.proofs.Apart.{IsSettled, settled_near, reach_small, inside_first, inside_direction}
-use Rattle.cell_bound.proofs.CellWorkings.{cells_fit}
+use Rattle.cell_bound.proofs.CellWorkings.{cells_fit, own_lines}
 
 abbrev IsSmallHeight : ℤ → Type 0
 IsSmallHeight z = unsigned_abs z ≤ 1000
@@ -182,3 +183,6 @@ path_ranges file v q =
 
 pub quiet : QuietLaw
 quiet file v q cell of = cells_fit (path file) (copies 36 file.supports) (copies 2000 file.supports) (path_valid file v).shape.problem (path_ranges file v q) cell of
+
+pub quiet_own : QuietOwnLaw
+quiet_own file v q cell of = own_lines (path file) (copies 36 file.supports) (copies 2000 file.supports) (path_valid file v).shape.problem (path_ranges file v q) cell of

@@ -1,5 +1,6 @@
 ghost use Rattle.cell_bound.specs.Ranges.{CellFits, CellsFit};
 ghost use Rattle.cell_bound.specs.Quiet.{QuietLaw};
+ghost use Rattle.cell_bound.specs.OwnLines.{QuietOwnLaw};
 
 /// Each number of a cell's working fits where the bounds of its rows and its further points do.
 pub fn cell_fits()
@@ -16,4 +17,9 @@ pub fn cells_fit()
 /// and whose heights and start heights are at most 1,000, the working of every cell fits.
 pub fn quiet()
     ensures { QuietLaw }
+{}
+
+/// There the line of each pair's own second point fits too, which a checker of a listing forms.
+pub fn quiet_own()
+    ensures { QuietOwnLaw }
 {}

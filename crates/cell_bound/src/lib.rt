@@ -3,4 +3,4 @@
 
 mod laws;
 
-pub use laws::{cell_fits, cells_fit, quiet};
+pub use laws::{cell_fits, cells_fit, quiet, quiet_own};

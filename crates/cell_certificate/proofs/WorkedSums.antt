@@ -19,7 +19,7 @@ use Rattle.cayley.specs.Cells.{Cell, IsOf, IsIndependent}
 use Rattle.cayley.specs.Mixed.{IsCoprime}
 use Rattle.cayley.specs.Rows.{edge_rows}
 use Rattle.cayley.proofs.OneCell.OneNormal.{same_values}
-use Rattle.cell_certificate.specs.Sums.{FitsRise, FitsAt, FitsFurther}
+use Rattle.cell_certificate.specs.Sums.{FitsRise, FitsAt, FitsOwn, FitsFurther}
 use Rattle.cell_certificate.specs.Tests.{IsLevelAt}
 use Rattle.cell_certificate.specs.Written.{FitsWritten}
 use Rattle.inner_normal.proofs.CellAnswers.{rows_lengths, cell_kernel, kernel_dependent}
@@ -51,6 +51,10 @@ solved n rows made red =
 -- the common denominator of the reduced rows and their shares of the last column fit
 abbrev pub FitsNumbers : ℕ → List (List ℤ) → Type 0
 FitsNumbers n made = FitsLcm 0 1 made × FitsShares n 0 (lcm_from 0 1 made) made
+
+-- the sums of the pairs' own second points under the normal that the elimination gives
+abbrev pub FitsOwnReduced : Problem → Cell → Type 0
+FitsOwnReduced p cell = (made : List (List ℤ)) → elimination p.dimension (edge_rows p cell) ≡ Ok made → FitsOwn p cell (shares p.dimension 0 (lcm_from 0 1 made) made) (pos (lcm_from 0 1 made))
 
 lcm_fits : (j l : ℕ) (rows : List (List ℤ)) → FitsWhole (pos l) → FitsLcm j l rows → FitsWhole (pos (lcm_from j l rows))
 unfolding lcm_from FitsLcm
@@ -132,28 +136,30 @@ module _ (p : Problem) (cell : Cell) (well : IsProblem p) (of : IsOf p cell) (in
         pairs_map p.supports cell (λ s a b. (c : ℕ) → FitsAt (pos l) ps s a b c) (λ s a b. (c : ℕ) → FitsAt (pos d) v s a b c) f
         (λ s a b g c u. rise_less d j v (point_at s a) (point_at s c) j_up (subst₂ (λ n xs. FitsRise (pos n) xs (point_at s a) (point_at s c)) l_is e (g c u)))
 
-  by_result : (r : Result (List (List ℤ)) (List ℤ)) → elimination p.dimension (edge_rows p cell) ≡ r → FitsWritten p cell → FitsFurther p cell v (pos d)
-  by_result (Ok made) e w =
-      let m = rows_lengths p cell well of in
-      reduced_further made (reduced_means p.dimension m.0 (edge_rows p cell) made (rows_count p cell well of) m.2 e) (w.1 made e).0
-  by_result (Err kernel) e w =
-      let m = rows_lengths p cell well of in
-      absurd (kernel_dependent p cell kernel (cell_kernel p cell kernel well of (kernel_means_it p.dimension m.0 (edge_rows p cell) kernel (rows_count p cell well of) m.2 e)) ind)
+    pub reduced_own : FitsOwn p cell ps (pos l) → FitsOwn p cell v (pos d)
+    reduced_own f =
+        let e = multiple_is d j ps v up (proportion ∙ ap (λ n. scale (pos n) v) l_is) in
+        pairs_map p.supports cell (λ s a b. FitsRise (pos l) ps (point_at s a) (point_at s b)) (λ s a b. FitsRise (pos d) v (point_at s a) (point_at s b)) f
+        (λ s a b g. rise_less d j v (point_at s a) (point_at s b) j_up (subst₂ (λ n xs. FitsRise (pos n) xs (point_at s a) (point_at s b)) l_is e g))
 
-  entries_by_result : (r : Result (List (List ℤ)) (List ℤ)) → elimination p.dimension (edge_rows p cell) ≡ r
-      → ((made : List (List ℤ)) → elimination p.dimension (edge_rows p cell) ≡ Ok made → FitsNumbers p.dimension made) → FitsWhole (pos d) × Each v FitsWhole
-  entries_by_result (Ok made) e f =
+  -- the elimination gives reduced rows, since the cell is independent
+  with_made : (Q : Type 0) → ((made : List (List ℤ)) → elimination p.dimension (edge_rows p cell) ≡ Ok made → IsReducedOf p.dimension (edge_rows p cell) made → Q)
+      → (r : Result (List (List ℤ)) (List ℤ)) → elimination p.dimension (edge_rows p cell) ≡ r → Q
+  with_made Q f (Ok made) e =
       let m = rows_lengths p cell well of in
-      reduced_entries made (reduced_means p.dimension m.0 (edge_rows p cell) made (rows_count p cell well of) m.2 e) (f made e)
-  entries_by_result (Err kernel) e f =
+      f made e (reduced_means p.dimension m.0 (edge_rows p cell) made (rows_count p cell well of) m.2 e)
+  with_made Q f (Err kernel) e =
       let m = rows_lengths p cell well of in
       absurd (kernel_dependent p cell kernel (cell_kernel p cell kernel well of (kernel_means_it p.dimension m.0 (edge_rows p cell) kernel (rows_count p cell well of) m.2 e)) ind)
 
   natural_entries : ((made : List (List ℤ)) → elimination p.dimension (edge_rows p cell) ≡ Ok made → FitsNumbers p.dimension made) → FitsWhole (pos d) × Each v FitsWhole
-  natural_entries f = entries_by_result (elimination p.dimension (edge_rows p cell)) refl f
+  natural_entries f = with_made (FitsWhole (pos d) × Each v FitsWhole) (λ made e red. reduced_entries made red (f made e)) (elimination p.dimension (edge_rows p cell)) refl
 
   natural_further : FitsWritten p cell → FitsFurther p cell v (pos d)
-  natural_further w = by_result (elimination p.dimension (edge_rows p cell)) refl w
+  natural_further w = with_made (FitsFurther p cell v (pos d)) (λ made e red. reduced_further made red (w.1 made e).0) (elimination p.dimension (edge_rows p cell)) refl
+
+  natural_own : FitsOwnReduced p cell → FitsOwn p cell v (pos d)
+  natural_own w = with_made (FitsOwn p cell v (pos d)) (λ made e red. reduced_own made red (w made e)) (elimination p.dimension (edge_rows p cell)) refl
 
 pub further_fits : (p : Problem) (cell : Cell) → IsProblem p → IsOf p cell → IsIndependent p cell
     → (den : ℤ) (v : List ℤ) → length v ≡ p.dimension → pos 0 <ℤ den → IsCoprime (den ∷ v) → IsLevelAt p cell v den → FitsWritten p cell → FitsFurther p cell v den
@@ -166,3 +172,9 @@ pub entries_fit : (p : Problem) (cell : Cell) → IsProblem p → IsOf p cell �
     → ((made : List (List ℤ)) → elimination p.dimension (edge_rows p cell) ≡ Ok made → FitsNumbers p.dimension made) → FitsWhole den × Each v FitsWhole
 entries_fit p cell well of ind (pos d) v long h coprime level f = natural_entries p cell well of ind d v long (omega (arith, ints, h)) coprime level f
 entries_fit p cell well of ind (negsuc d) v long h coprime level f = absurd (omega (arith, ints, h))
+
+-- where the sums of the pairs' own second points fit under the normal that the elimination gives, they do under the one in lowest terms
+pub own_fits : (p : Problem) (cell : Cell) → IsProblem p → IsOf p cell → IsIndependent p cell
+    → (den : ℤ) (v : List ℤ) → length v ≡ p.dimension → pos 0 <ℤ den → IsCoprime (den ∷ v) → IsLevelAt p cell v den → FitsOwnReduced p cell → FitsOwn p cell v den
+own_fits p cell well of ind (pos d) v long h coprime level w = natural_own p cell well of ind d v long (omega (arith, ints, h)) coprime level w
+own_fits p cell well of ind (negsuc d) v long h coprime level w = absurd (omega (arith, ints, h))

@@ -34,6 +34,7 @@ use Rattle.mixedcells.proofs.CommandLine.Words.{one_meaning}
 use Rattle.mixedcells.proofs.Readings.{ok_once, err_once, not_both}
 use Rattle.mixedcells.proofs.Checks.{one_check_reply}
 use Rattle.mixedcells.proofs.Powered.{one_powers_reply}
+use Rattle.mixedcells.proofs.SystemReplies.{one_system_reply}
 
 three_ways : {P : Type 0} (m n : ℕ) → (m < n → P) → (m ≡ n → P) → (n < m → P) → P
 three_ways m n f g h = elim (dec_lt m n) [ yes p ↦ f p | no q ↦ elim (ℕ_discrete m n) [ yes e ↦ g e | no r ↦ h (omega arith) ] ]
@@ -211,6 +212,7 @@ AreAlikeOf (verb.Sum n) o q = (nat_le 2 n ≡ false) × IsWalkEnd o × IsWalkEnd
 AreAlikeOf verb.Check o q = ⊥
 AreAlikeOf verb.Generic o q = AreTiesOfOne o q
 AreAlikeOf verb.Powers o q = ⊥
+AreAlikeOf (verb.Poly seed) o q = ⊥
 AreAlikeOf (verb.Make family seed) o q = ⊥
 
 loose_of : (words : List (List ℕ)) (command : Command) (o q : Outcome) → Means words command → AreAlikeOf command o q → AreLoose words o q
@@ -220,6 +222,7 @@ loose_of words (verb.Sum n) o q means a = inl ((n, a.0, inr means), a.1, a.2)
 loose_of words verb.Check o q means a = absurd a
 loose_of words verb.Generic o q means a = inr (means, a)
 loose_of words verb.Powers o q means a = absurd a
+loose_of words (verb.Poly seed) o q means a = absurd a
 loose_of words (verb.Make family seed) o q means a = absurd a
 
 one_or_team : {P : Type 0} (b : Bool) → b ≡ false → IsTrue b → P
@@ -242,6 +245,7 @@ one_reply (verb.Sum n) bytes o q t u h k = one_alone_reply n IsReachedSum bytes 
 one_reply verb.Check bytes o q t u h k = inl (one_check_reply bytes o q t u h k)
 one_reply verb.Generic bytes o q t u h k = one_file_reply IsTieReply AreTiesOfOne one_tie_reply bytes o q t u h k
 one_reply verb.Powers bytes o q t u h k = inl (one_powers_reply bytes o q t u h k)
+one_reply (verb.Poly seed) bytes o q t u h k = inl (one_system_reply seed bytes o q t u h k)
 one_reply (verb.Make family seed) bytes o q t u h k = inl (h.0 ∙ sym k.0)
 
 one_answer : (command : Command) (bytes : List ℕ) (o q : Outcome) (t u : List ℕ) → IsAnswer command bytes o t → IsAnswer command bytes q u → (o ≡ q) ⊎ AreAlikeOf command o q

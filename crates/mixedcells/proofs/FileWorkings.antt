@@ -18,6 +18,7 @@ use Rattle.start_system.proofs.Started.SearchLaws.{path_law}
 use Rattle.searcher.specs.Workings.{FitsWorking}
 use Rattle.cone_walls.specs.Numbers.{FitsWall}
 use Rattle.cone_walls.specs.Workings.{normal_of_rows, FitsSupport, FitsWallWorking}
+use Rattle.cell_bound.specs.OwnLines.{FitOwnLines}
 
 abbrev InRange : List Point → ℕ → ℕ → Type 0
 InRange s a b = (1 ≤ a) × (a < b) × (b ≤ length s)
@@ -66,6 +67,18 @@ module _ (gs : List ℕ) where
     same_walls m ss us cell a.1 r.1 w.1,
   )
 
+  same_own : (m : MovingNormal) (ss us : List (List Point)) (cell : Cell) → Alikes gs ss us → EachPair us cell InRange
+      → EachPair ss cell (λ s a b. FitsWall m (point_at s a) (point_at s b)) → EachPair us cell (λ s a b. FitsWall m (point_at s a) (point_at s b))
+  same_own m [] [] [] a r w = tt
+  same_own m [] [] (x ∷ cell) a r w = absurd r
+  same_own m [] (u ∷ us) cell a r w = absurd a
+  same_own m (s ∷ ss) [] cell a r w = absurd a
+  same_own m (s ∷ ss) (u ∷ us) [] a r w = absurd r
+  same_own m (s ∷ ss) (u ∷ us) (x ∷ cell) a r w = (
+    subst₂ (FitsWall m) (same_point s u a.0 x.0 r.0.0 (omega (arith, r.0.1, r.0.2))) (same_point s u a.0 x.1 (omega (arith, r.0.0, r.0.1)) r.0.2) w.0,
+    same_own m ss us cell a.1 r.1 w.1,
+  )
+
   -- a further point is one, and stands as far from its pair
   same_further : (ss us : List (List Point)) (cell : Cell) (j c : ℕ) → Alikes gs ss us → EachPair us cell InRange → IsFurther (support_at us j) (pair_at cell j).0 (pair_at cell j).1 c
       → IsFurther (support_at ss j) (pair_at cell j).0 (pair_at cell j).1 c
@@ -96,6 +109,13 @@ file_fits p cell ranks still moving of w =
           ),
     )
 
+file_own : (p : Problem) (cell : Cell) → HasRanks p → IsStill p → IsMoving p → IsOf (file_points p) cell → FitOwnLines p cell → FitOwnLines (file_points p) cell
+file_own p cell ranks still moving of w =
+    let q = file_points p in
+    let a = file_points_alike p ranks still moving in
+    let e : edge_rows p cell ≡ edge_rows q cell = same_rows a.0 p.dimension 0 p.supports q.supports cell a.1 of in
+    λ made o. same_own a.0 (normal_of_rows made) p.supports q.supports cell a.1 of (w made (ap (elimination p.dimension) e ∙ o))
+
 -- ---- the path of a file
 module _ (file : File) (valid : IsValidFile file) where
   -- a cell of file points is of the path
@@ -112,3 +132,10 @@ module _ (file : File) (valid : IsValidFile file) where
       let v = path_valid file valid in
       let l = path_law file valid in
       subst (λ q. FitsWallWorking q cell) l.2 (file_fits (path file) cell v.ranks l.1 v.shape.moving of (w.0, λ made e. (w.1 made e).0))
+
+  -- so do the lines of the pairs' own second points
+  pub plain_own : (cell : Cell) → IsOf (file_points (path file)) cell → FitOwnLines (path file) cell → FitOwnLines (plain_problem file) cell
+  plain_own cell of w =
+      let v = path_valid file valid in
+      let l = path_law file valid in
+      subst (λ q. FitOwnLines q cell) l.2 (file_own (path file) cell v.ranks l.1 v.shape.moving of w)

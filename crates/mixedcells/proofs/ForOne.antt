@@ -33,6 +33,7 @@ same_words (Some (verb.Sum n)) words f = other (nat_le 2 n) (codes "sum" ∷ [])
 same_words (Some verb.Check) words f = refl
 same_words (Some verb.Generic) words f = refl
 same_words (Some verb.Powers) words f = refl
+same_words (Some (verb.Poly seed)) words f = refl
 same_words (Some (verb.Make family seed)) words f = refl
 
 not_team : (words : List Text) → ¬ (IsForTeam words) → (c : Command) → Means words c → needs_team c ≡ false
@@ -51,6 +52,7 @@ meant_by (Some verb.Plain) words c e means l = let same : verb.Plain ≡ c = cc 
 meant_by (Some verb.Check) words c e means l = let same : verb.Check ≡ c = cc in subst (λ d. Means words (by_one d)) same (subst (Means words) (sym same) means)
 meant_by (Some verb.Generic) words c e means l = let same : verb.Generic ≡ c = cc in subst (λ d. Means words (by_one d)) same (subst (Means words) (sym same) means)
 meant_by (Some verb.Powers) words c e means l = let same : verb.Powers ≡ c = cc in subst (λ d. Means words (by_one d)) same (subst (Means words) (sym same) means)
+meant_by (Some (verb.Poly seed)) words c e means l = let same : verb.Poly seed ≡ c = cc in subst (λ d. Means words (by_one d)) same (subst (Means words) (sym same) means)
 meant_by (Some (verb.Make f s)) words c e means l = let same : verb.Make f s ≡ c = cc in subst (λ d. Means words (by_one d)) same (subst (Means words) (sym same) means)
 meant_by (Some (verb.List n)) words c e means l =
     let same : verb.List n ≡ c = cc in
@@ -83,6 +85,7 @@ alone_by (verb.Sum n) = refl
 alone_by verb.Check = refl
 alone_by verb.Generic = refl
 alone_by verb.Powers = refl
+alone_by (verb.Poly seed) = refl
 alone_by (verb.Make family seed) = refl
 
 pub team_command : {P : Type 0} (words : List Text) (d : Command) → IsForTeam words → Means words d → needs_team d ≡ false → P
@@ -108,6 +111,7 @@ reads_by_one (verb.Sum n) h = refl
 reads_by_one verb.Check h = cc
 reads_by_one verb.Generic h = cc
 reads_by_one verb.Powers h = cc
+reads_by_one (verb.Poly seed) h = cc
 reads_by_one (verb.Make family seed) h = cc
 
 pub reading_by_one : (words : List Text) → IsForTeam words → IsReading (for_one words)

@@ -3,6 +3,7 @@ pub mod Ended
 pub mod Readings
 pub mod Checks
 pub mod Powered
+pub mod SystemReplies
 pub mod Exact
 pub mod Listings
 pub mod FileWorkings
@@ -12,3 +13,5 @@ pub mod Walking
 pub mod AlongPaths
 pub mod Teams
 pub mod ForOne
+pub mod QuietFiles
+pub mod LiftedSystems

@@ -38,6 +38,7 @@ use Rattle.cone_walls.specs.Numbers.{FitsWall}
 use Rattle.cone_walls.specs.Workings.{normal_of_rows, FitsWalls, FitsWallWorking}
 use Rattle.plain_lister.specs.Lists.{AllFit}
 use Rattle.cell_certificate.specs.Sums.{FitsAt, FitsFurther}
+use Rattle.cell_certificate.specs.Tests.{IsLevelAt}
 use Rattle.cell_certificate.specs.declared.verdict.Verdict.TheVariants.{Yes, No}
 use Rattle.cell_certificate.specs.declared.verdict.CheckFault.TheVariants.{Overflow, OutOfMemory}
 use Rattle.cell_certificate.specs.Answers.{Answer, HadMemory}
@@ -106,21 +107,37 @@ each_mixed file found m =
     each_unmap (λ (x : FoundCell). x.cell) P found (each_contained P (map (λ (x : FoundCell). x.cell) found) (λ cell c. (m.cells.1 cell).0 c))
 
 module _ (file : File) (valid : IsValidFile file) where
+  -- of a mixed cell and its normal in lowest terms
+  module _ (cell : Cell) (v : List ℤ) (den : ℤ) (m : IsMixedCell (plain_problem file) cell) (n : IsLowestNormal (plain_problem file) cell v den) where
+    pub well : IsProblem (plain_problem file)
+    well = (valid_of file valid).shape.problem
+
+    pub alive : IsAlive (plain_problem file) cell time_zero
+    alive = subst (λ q. IsAlive q cell time_zero) (own_points file valid) m
+
+    normal : IsNormal (plain_problem file) cell time_zero n.2.0
+    normal = subst (λ q. IsNormal q cell time_zero n.2.0) (own_points file valid) n.2.1
+
+    pub long : length v ≡ (plain_problem file).dimension
+    long = first_length n.2.0 v den n.2.2 ∙ normal.0
+
+    pub level : IsLevelAt (plain_problem file) cell v den
+    level = lowest_level (plain_problem file) cell alive.0 v den n.2.0 long n.0 normal n.2.2
+
   cell_formed : (x : FoundCell) → IsMixedCell (plain_problem file) x.cell → IsLowestNormal (plain_problem file) x.cell x.normal.v x.normal.den
       → FitsWallWorking (plain_problem file) x.cell → IsFormed (counts_of file) x
   cell_formed x m n w =
       let p = plain_problem file in
-      let well = (valid_of file valid).shape.problem in
-      let alive = subst (λ q. IsAlive q x.cell time_zero) (own_points file valid) m in
-      let normal = subst (λ q. IsNormal q x.cell time_zero n.2.0) (own_points file valid) n.2.1 in
-      let long : length x.normal.v ≡ p.dimension = first_length n.2.0 x.normal.v x.normal.den n.2.2 ∙ normal.0 in
-      let level = lowest_level p x.cell alive.0 x.normal.v x.normal.den n.2.0 long n.0 normal n.2.2 in
-      let fit = entries_fit p x.cell well alive.0 alive.1 x.normal.den x.normal.v long n.0 n.1 level (λ made e. let r = (w.1 made e).0 in (r.0, r.1)) in
+      let v = x.normal.v in
+      let den = x.normal.den in
+      let a = alive x.cell v den m n in
+      let l = long x.cell v den m n in
+      let fit = entries_fit p x.cell (well x.cell v den m n) a.0 a.1 den v l n.0 n.1 (level x.cell v den m n) (λ made e. let r = (w.1 made e).0 in (r.0, r.1)) in
       record {
-        cell = cell_of_file file.supports x.cell (same_of (plain_problem file) (plain_of file.dimension file.supports) x.cell (sym (plain_same file)) alive.0);
-        size = long ∙ sym valid.shape.supports ∙ sym (length-map file.supports length);
-        entries = each_weaker FitsWhole IsEntry x.normal.v entry_of fit.1;
-        den = over_of x.normal.den fit.0 n.0;
+        cell = cell_of_file file.supports x.cell (same_of (plain_problem file) (plain_of file.dimension file.supports) x.cell (sym (plain_same file)) a.0);
+        size = l ∙ sym valid.shape.supports ∙ sym (length-map file.supports length);
+        entries = each_weaker FitsWhole IsEntry v entry_of fit.1;
+        den = over_of den fit.0 n.0;
       }
 
   each_formed : (found : List FoundCell) → Each found (λ (x : FoundCell). IsMixedCell (plain_problem file) x.cell)
@@ -235,7 +252,13 @@ module _ (bytes : List ℕ) (file : File) (w : IsWrittenListing file bytes) (sho
   back : (listed : List ListedCell) × (listing_of bytes ≡ Ok (file, listed)) × (map found_of listed ≡ found)
   back = let b = listing_back file found valid formed few in (b.0, ap listing_of w.4 ∙ b.1, b.2)
 
-  spared_listing : (listing : Listing) → IsListingText bytes listing → IsWritten listing
+  pub same_file : (listing : Listing) → IsListingText bytes listing → file ≡ listing.file
+  same_file listing e =
+      let b = back in
+      let same : (file, b.0) ≡ read_of listing = ok_once (listing_of bytes) (file, b.0) (read_of listing) b.1 e in
+      ap (λ (x : Listed). x.0) same
+
+  pub spared_listing : (listing : Listing) → IsListingText bytes listing → IsWritten listing
   spared_listing listing e =
       let b = back in
       let same : (file, b.0) ≡ read_of listing = ok_once (listing_of bytes) (file, b.0) (read_of listing) b.1 e in

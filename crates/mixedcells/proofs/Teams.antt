@@ -10,7 +10,7 @@ use Rattle.mixedcells.specs.declared.outcome.Outcome.TheVariants as variant
 use Rattle.mixedcells.specs.Words.{Means, HasMeaning, IsReading, IsForTeam, IsWalking, needs_team, reads}
 use Rattle.mixedcells.specs.Outcomes.{status_of, usage_line}
 use Rattle.mixedcells.specs.Walks.{IsReachedListing, IsReachedSum, IsWalkReply, IsTieReply}
-use Rattle.mixedcells.specs.Answers.{IsReply, IsFileReply, IsListReply, IsAloneReply, IsCheckReply, IsPowersReply}
+use Rattle.mixedcells.specs.Answers.{IsReply, IsFileReply, IsListReply, IsAloneReply, IsCheckReply, IsPowersReply, IsSystemReply}
 use Rattle.mixedcells.specs.Runs.{IsInput, IsAnswer, IsCalledFor, Finishes}
 use Rattle.mixedcells.proofs.CommandLine.Words.{one_meaning, team_of}
 
@@ -26,6 +26,7 @@ team_reply (verb.Sum n) bytes h = inr (h, refl, refl)
 team_reply verb.Check bytes h = cc
 team_reply verb.Generic bytes h = cc
 team_reply verb.Powers bytes h = cc
+team_reply (verb.Poly seed) bytes h = cc
 team_reply (verb.Make family seed) bytes h = cc
 
 pub team_unread : (command : Command) → IsTrue (needs_team command) → reads command ≡ false
@@ -35,6 +36,7 @@ team_unread (verb.Sum n) h = ap not h
 team_unread verb.Check h = cc
 team_unread verb.Generic h = cc
 team_unread verb.Powers h = cc
+team_unread (verb.Poly seed) h = cc
 team_unread (verb.Make family seed) h = cc
 
 -- a team is called for
@@ -78,6 +80,10 @@ powers_alone : {P : Type 0} (bytes t : List ℕ) → IsPowersReply bytes variant
 powers_alone bytes t (inl h) = absurd h.2
 powers_alone bytes t (inr h) = absurd (let e = ap status_of h.2.0 in omega (arith, e))
 
+system_alone : {P : Type 0} (seed : ℕ) (bytes t : List ℕ) → IsSystemReply seed bytes variant.NeedsTeam t → P
+system_alone seed bytes t (inl h) = absurd (let e = ap status_of h.2 in omega (arith, e))
+system_alone seed bytes t (inr h) = absurd (let e = ap status_of h.2.0 in omega (arith, e))
+
 replies_team : (command : Command) (bytes t : List ℕ) → IsReply command bytes variant.NeedsTeam t → IsTrue (needs_team command)
 replies_team verb.Plain bytes t r = file_alone IsListReply bytes t (λ file k. k) r
 replies_team (verb.List n) bytes t r = walk_team n IsReachedListing bytes t r
@@ -85,6 +91,7 @@ replies_team (verb.Sum n) bytes t r = walk_team n IsReachedSum bytes t r
 replies_team verb.Check bytes t r = check_alone bytes t r
 replies_team verb.Generic bytes t r = file_alone IsTieReply bytes t (λ file k. k) r
 replies_team verb.Powers bytes t r = powers_alone bytes t r
+replies_team (verb.Poly seed) bytes t r = system_alone seed bytes t r
 replies_team (verb.Make family seed) bytes t r = absurd (let e = ap status_of r.0 in omega (arith, e))
 
 answers_team : (command : Command) (bytes t : List ℕ) → IsAnswer command bytes variant.NeedsTeam t → IsTrue (needs_team command)

@@ -8,6 +8,7 @@ use Rattle.listing_text.specs.declared.listing.Listing.{Listing}
 use Rattle.listing_text.specs.ListingText.{listing_of}
 use Rattle.listing_text.specs.Listings.{IsListingOf}
 use Rattle.cell_certificate.specs.Answers.{IsRight, IsWrong, IsTooLarge}
+use Rattle.poly_text.specs.SystemText.{PointSystem, system_of}
 use Rattle.homotopy_rows.specs.Answers.{IsPowersText}
 use Rattle.homotopy_rows.specs.Flat.{FirstFlat}
 use Rattle.plain_lister.specs.Choices.{HasTooMany, IsExcess}
@@ -17,7 +18,7 @@ use Rattle.mixedcells.specs.declared.words.Command.{Command}
 use Rattle.mixedcells.specs.declared.words.Command.TheVariants as verb
 use Rattle.mixedcells.specs.declared.outcome.Outcome.{Outcome}
 use Rattle.mixedcells.specs.declared.outcome.Outcome.TheVariants as variant
-use Rattle.mixedcells.specs.Families.{family_file}
+use Rattle.mixedcells.specs.Families.{family_file, lifted_text}
 use Rattle.mixedcells.specs.Walks.{IsReachedListing, IsReachedSum, IsWalkReply, IsTieReply}
 use Rattle.mixedcells.specs.Outcomes.{yes_line, format_line, no_line, overflow_line, too_many_line, overflow_cell}
 
@@ -121,6 +122,12 @@ IsPowersReply bytes outcome text =
     ((listing : Listing) × IsListingText bytes listing × IsRowsReply listing outcome text)
     ⊎ ((fault : FormatFault) × (listing_of bytes ≡ Err fault) × TellsFault fault outcome text)
 
+-- what `poly` replies: the canonical text of the file that lifts the system which the bytes mean, or their first fault
+abbrev pub IsSystemReply : ℕ → List ℕ → Outcome → List ℕ → Type 0
+IsSystemReply seed bytes outcome text =
+    ((system : PointSystem) × (system_of bytes ≡ Ok system) × (outcome ≡ variant.Ok) × (text ≡ lifted_text seed system))
+    ⊎ ((fault : FormatFault) × (system_of bytes ≡ Err fault) × TellsFault fault outcome text)
+
 -- what `make` replies: the canonical text of the family's file
 abbrev pub IsMadeReply : Family → ℕ → Outcome → List ℕ → Type 0
 IsMadeReply family seed outcome text = (outcome ≡ variant.Ok) × (text ≡ problem_text (family_file family seed))
@@ -133,4 +140,5 @@ IsReply (verb.Sum searchers) bytes outcome text = IsAloneReply searchers IsReach
 IsReply verb.Generic bytes outcome text = IsGenericReply bytes outcome text
 IsReply verb.Check bytes outcome text = IsCheckReply bytes outcome text
 IsReply verb.Powers bytes outcome text = IsPowersReply bytes outcome text
+IsReply (verb.Poly seed) bytes outcome text = IsSystemReply seed bytes outcome text
 IsReply (verb.Make family seed) bytes outcome text = IsMadeReply family seed outcome text

@@ -13,6 +13,7 @@ by_one (verb.Sum searchers) = verb.Sum 1
 by_one verb.Check = verb.Check
 by_one verb.Generic = verb.Generic
 by_one verb.Powers = verb.Powers
+by_one (verb.Poly seed) = verb.Poly seed
 by_one (verb.Make family seed) = verb.Make family seed
 
 -- how many searchers a command is for
@@ -23,6 +24,7 @@ searchers_of (verb.Sum searchers) = searchers
 searchers_of verb.Check = 1
 searchers_of verb.Generic = 1
 searchers_of verb.Powers = 1
+searchers_of (verb.Poly seed) = 1
 searchers_of (verb.Make family seed) = 1
 
 -- the words for one searcher, where the command is for two or more

@@ -91,6 +91,10 @@ IsSpared bytes outcome = (outcome ≡ variant.Ok)
     ⊎ ((listing : Listing) × (line : ℕ) × IsListingText bytes listing × IsOwnTooLarge listing line × (outcome ≡ variant.OverflowLine line))
     ⊎ ((limit < length bytes) × (outcome ≡ variant.TooLong))
 
+-- every line passes, or the listing is longer than what is read
+abbrev pub Passes : List ℕ → Outcome → Type 0
+Passes bytes outcome = (outcome ≡ variant.Ok) ⊎ ((limit < length bytes) × (outcome ≡ variant.TooLong))
+
 -- how many bytes of the source were taken: at most the limit and one more; exactly that where the input is too long, and at most the limit where a read failed
 pub record TakesNoMore (old new : Option (List ℕ)) (outcome : Outcome) : Type 0 where
   pub bytes : List ℕ

@@ -48,6 +48,15 @@ searchers (w ∷ []) = option_and_then searchers_in (after (codes "--searchers="
 searchers (w ∷ v ∷ []) = if bytes_eq w (codes "--searchers") then searchers_in v else None
 searchers (_ ∷ _ ∷ _ ∷ _) = None
 
+-- ---- `poly`
+
+-- the seed that the words after `poly` ask for
+abbrev pub system_seed : List Text → Option ℕ
+system_seed [] = Some 1
+system_seed (w ∷ []) = option_and_then seed_in (after (codes "--seed=") w)
+system_seed (w ∷ v ∷ []) = if bytes_eq w (codes "--seed") then seed_in v else None
+system_seed (_ ∷ _ ∷ _ ∷ _) = None
+
 -- ---- `make`
 
 abbrev pub cyclic : Text → Option Family
@@ -123,6 +132,7 @@ meaning_after w ws =
     else if bytes_eq w (codes "check") then alone meaning.Check ws
     else if bytes_eq w (codes "powers") then alone meaning.Powers ws
     else if bytes_eq w (codes "generic") then alone meaning.Generic ws
+    else if bytes_eq w (codes "poly") then option_map meaning.Poly (system_seed ws)
     else if bytes_eq w (codes "list") then option_map meaning.List (searchers ws)
     else if bytes_eq w (codes "sum") then option_map meaning.Sum (searchers ws)
     else if bytes_eq w (codes "make") then made ws
@@ -143,6 +153,7 @@ built (meaning.Sum searchers) = Some (verb.Sum searchers)
 built meaning.Check = Some verb.Check
 built meaning.Generic = Some verb.Generic
 built meaning.Powers = Some verb.Powers
+built (meaning.Poly seed) = Some (verb.Poly seed)
 built (meaning.Make family seed) = Some (verb.Make family seed)
 
 abbrev pub command_for : List Text → Option Command
@@ -163,6 +174,7 @@ needs_team (verb.Sum searchers) = nat_le 2 searchers
 needs_team verb.Check = false
 needs_team verb.Generic = false
 needs_team verb.Powers = false
+needs_team (verb.Poly seed) = false
 needs_team (verb.Make family seed) = false
 
 -- whether a command reads its input; for more than one searcher nothing is read
@@ -173,6 +185,7 @@ reads (verb.Sum searchers) = not (nat_le 2 searchers)
 reads verb.Check = true
 reads verb.Generic = true
 reads verb.Powers = true
+reads (verb.Poly seed) = true
 reads (verb.Make family seed) = false
 
 -- the words ask for more than one searcher
@@ -208,6 +221,7 @@ meaning_read r =
     else if bytes_eq r.name (codes "check") then Some meaning.Check
     else if bytes_eq r.name (codes "powers") then Some meaning.Powers
     else if bytes_eq r.name (codes "generic") then Some meaning.Generic
+    else if bytes_eq r.name (codes "poly") then option_map meaning.Poly (seed_read r.seed)
     else if bytes_eq r.name (codes "list") then option_map meaning.List (searchers_read r.searchers)
     else if bytes_eq r.name (codes "sum") then option_map meaning.Sum (searchers_read r.searchers)
     else option_and_then (λ f. option_map (meaning.Make f) (seed_read r.seed)) (family_read r.family r.n r.m r.side)

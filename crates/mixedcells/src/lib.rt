@@ -7,6 +7,7 @@ mod lines;
 mod many;
 mod outcome;
 mod replies;
+mod systems;
 mod together;
 mod top;
 mod walks;
@@ -22,5 +23,7 @@ pub use words::{Command, Family};
 mod along_tests;
 #[cfg(test)]
 mod many_tests;
+#[cfg(test)]
+mod system_tests;
 #[cfg(test)]
 mod tests;

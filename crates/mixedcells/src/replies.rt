@@ -8,10 +8,10 @@ ghost use Rattle.mixedcells.specs.Words.{needs_team};
 ghost use Rattle.mixedcells.specs.Families as families;
 ghost use Rattle.mixedcells.specs.Families.{IsFit, IsInLimits};
 
-use crate::along;
 use crate::lines::{format_line, no_line, overflow_cell, overflow_line, too_many_line, yes_line};
 use crate::outcome::Outcome;
 use crate::words::{Command, Family};
+use crate::{along, systems};
 use cayley::{LiftFile, Problem};
 use cell_certificate::{CheckFault, Verdict};
 use family_gen::{cyclic, scatter};
@@ -45,6 +45,7 @@ pub fn answer(alloc: Global, command: Command, bytes: &[u8]) -> Result<Reply, Ou
         Command::Check => check(alloc, bytes),
         Command::Generic => generic(alloc, bytes),
         Command::Powers => powers(alloc, bytes),
+        Command::Poly(seed) => systems::poly(alloc, seed, bytes),
         Command::Make(family, seed) => made(alloc, family, seed),
     }
 }
@@ -93,7 +94,7 @@ fn generic(alloc: Global, bytes: &[u8]) -> Result<Reply, OutOfMemory>
     }
 }
 
-// The reply to a fault of the input's format.
+/// The reply to a fault of the input's format.
 pub fn refusal(alloc: Global, fault: FormatFault) -> Result<Reply, OutOfMemory>
     ensures { IfOk result (λ r. TellsFault fault r.outcome r.text.items) }
 {

@@ -1,5 +1,5 @@
 use crate::top::run_alone;
-use edge_io::{MemorySink, MemorySource, SteadySource, read_all};
+use edge_io::{MemorySink, MemorySource, Source, SteadySource, read_all};
 use std::alloc::Global;
 use std::test::Fail;
 
@@ -26,6 +26,16 @@ fn word(alloc: Global, text: &str) -> Result<Vec<String>, Fail> {
     Ok(words)
 }
 
+// The status of a run.
+fn status_of<S: Source>(
+    alloc: Global,
+    words: &[String],
+    source: &mut S,
+    sink: &mut MemorySink,
+) -> u8 {
+    run_alone(alloc, words, source, sink).status()
+}
+
 // The status of a run of one word on bytes, and what it wrote.
 pub(crate) fn run(alloc: Global, text: &str, input: &[u8]) -> Result<(u8, Vec<u8>), Fail> {
     let words = word(alloc, text)?;
@@ -33,9 +43,9 @@ pub(crate) fn run(alloc: Global, text: &str, input: &[u8]) -> Result<(u8, Vec<u8
     let Ok(mut sink) = MemorySink::new(alloc, 4096, 1000, Vec::new(alloc)) else {
         return Err(Fail::from("out of memory"));
     };
-    let outcome = run_alone(alloc, &words, &mut source, &mut sink);
+    let status = status_of(alloc, &words, &mut source, &mut sink);
     let written = sink.bytes().to_vec(alloc)?;
-    Ok((outcome.status(), written))
+    Ok((status, written))
 }
 
 #[test]
@@ -99,7 +109,12 @@ fn odd_spelling_is_written_plainly(rt: HostRuntime) -> Result<(), Fail> {
 
 #[test]
 fn refusals_by_their_lines(rt: HostRuntime) -> Result<(), Fail> {
-    let rows: [(&[u8], u8, &[u8]); 8] = [
+    let rows: [(&[u8], u8, &[u8]); 9] = [
+        (
+            LONG_EDGES,
+            5,
+            b"overflow: cell 1 2 1 2 1 2 1 2 1 2 1 2 1 2\n",
+        ),
         (
             b"mixedcells 1\ndim 1\nsupport 3\n",
             3,
@@ -149,17 +164,6 @@ fn refusals_by_their_lines(rt: HostRuntime) -> Result<(), Fail> {
 pub(crate) const LONG_EDGES: &[u8] =
     b"mixedcells 1\ndim 7\nsupport 2\n0 0 0 0 0 0 0 : 0\n1000000 0 0 0 0 0 0 : 0\nsupport 2\n0 0 0 0 0 0 0 : 0\n0 999999 0 0 0 0 0 : 0\nsupport 2\n0 0 0 0 0 0 0 : 0\n0 0 999997 0 0 0 0 : 0\nsupport 2\n0 0 0 0 0 0 0 : 0\n0 0 0 999991 0 0 0 : 0\nsupport 2\n0 0 0 0 0 0 0 : 0\n0 0 0 0 999989 0 0 : 0\nsupport 2\n0 0 0 0 0 0 0 : 0\n0 0 0 0 0 999983 0 : 0\nsupport 2\n0 0 0 0 0 0 0 : 0\n0 0 0 0 0 0 999979 : 0\nend\n";
 
-#[test]
-fn seven_long_edges_overflow(rt: HostRuntime) -> Result<(), Fail> {
-    let (status, written) = run(rt.alloc(), "plain", LONG_EDGES)?;
-    assert_eq!(rt; status, 5);
-    assert_eq!(rt;
-        written.as_slice(),
-        b"overflow: cell 1 2 1 2 1 2 1 2 1 2 1 2 1 2\n".as_slice()
-    );
-    Ok(())
-}
-
 // Three level points, their heights perturbed.
 pub(crate) const PERTURBED: &[u8] = b"mixedcells 2\ndim 1\nsupport 3\n0 : 0\n1 : 0\n2 : 0\nend\n";
 
@@ -205,21 +209,6 @@ fn too_many_choices(rt: HostRuntime) -> Result<(), Fail> {
 }
 
 #[test]
-fn words_without_a_meaning_read_nothing(rt: HostRuntime) -> Result<(), Fail> {
-    let words = Vec::new(rt.alloc());
-    let mut source = SteadySource::new(SEGMENT.to_vec(rt.alloc())?);
-    let Ok(mut sink) = MemorySink::new(rt.alloc(), 100, 100, Vec::new(rt.alloc())) else {
-        return Err(Fail::from("out of memory"));
-    };
-    let outcome = run_alone(rt.alloc(), &words, &mut source, &mut sink);
-    assert_eq!(rt; outcome.status(), 2);
-    assert_eq!(rt; sink.bytes(), b"usage\n".as_slice());
-    let left = read_all(rt.alloc(), &mut source)?;
-    assert_eq!(rt; left.as_slice(), SEGMENT);
-    Ok(())
-}
-
-#[test]
 fn a_failed_read_writes_nothing(rt: HostRuntime) -> Result<(), Fail> {
     let words = word(rt.alloc(), "plain")?;
     let failing = [1].to_vec(rt.alloc())?;
@@ -227,8 +216,8 @@ fn a_failed_read_writes_nothing(rt: HostRuntime) -> Result<(), Fail> {
     let Ok(mut sink) = MemorySink::new(rt.alloc(), 100, 100, Vec::new(rt.alloc())) else {
         return Err(Fail::from("out of memory"));
     };
-    let outcome = run_alone(rt.alloc(), &words, &mut source, &mut sink);
-    assert_eq!(rt; outcome.status(), 6);
+    let status = status_of(rt.alloc(), &words, &mut source, &mut sink);
+    assert_eq!(rt; status, 6);
     assert_eq!(rt; sink.bytes(), b"".as_slice());
     Ok(())
 }
@@ -241,8 +230,8 @@ fn a_failed_write_leaves_a_prefix(rt: HostRuntime) -> Result<(), Fail> {
     let Ok(mut sink) = MemorySink::new(rt.alloc(), 1000, 4, failing) else {
         return Err(Fail::from("out of memory"));
     };
-    let outcome = run_alone(rt.alloc(), &words, &mut source, &mut sink);
-    assert_eq!(rt; outcome.status(), 7);
+    let status = status_of(rt.alloc(), &words, &mut source, &mut sink);
+    assert_eq!(rt; status, 7);
     assert_eq!(rt; sink.bytes(), b"mixedcel".as_slice());
     Ok(())
 }
@@ -365,29 +354,6 @@ fn powers_of_listed_cells(rt: HostRuntime) -> Result<(), Fail> {
     Ok(())
 }
 
-#[test]
-fn a_listing_is_no_problem_file(rt: HostRuntime) -> Result<(), Fail> {
-    let input = squares_with(rt.alloc(), CELLS)?;
-    let (status, written) = run(rt.alloc(), "plain", &input)?;
-    assert_eq!(rt; status, 3);
-    assert_eq!(rt; written.as_slice(), b"format: line 16 kind 9\n".as_slice());
-    Ok(())
-}
-
-#[test]
-fn check_takes_no_further_word(rt: HostRuntime) -> Result<(), Fail> {
-    let mut words = word(rt.alloc(), "check")?;
-    words.push(String::from_str(rt.alloc(), "extra")?)?;
-    let mut source = SteadySource::new(SEGMENT.to_vec(rt.alloc())?);
-    let Ok(mut sink) = MemorySink::new(rt.alloc(), 100, 100, Vec::new(rt.alloc())) else {
-        return Err(Fail::from("out of memory"));
-    };
-    let outcome = run_alone(rt.alloc(), &words, &mut source, &mut sink);
-    assert_eq!(rt; outcome.status(), 2);
-    assert_eq!(rt; sink.bytes(), b"usage\n".as_slice());
-    Ok(())
-}
-
 // The words of a line.
 fn words_of(alloc: Global, line: &str) -> Result<Vec<String>, Fail> {
     let mut words = Vec::new(alloc);
@@ -404,10 +370,10 @@ pub(crate) fn run_line(alloc: Global, line: &str) -> Result<(u8, Vec<u8>, usize)
     let Ok(mut sink) = MemorySink::new(alloc, 65_536, 65_536, Vec::new(alloc)) else {
         return Err(Fail::from("out of memory"));
     };
-    let outcome = run_alone(alloc, &words, &mut source, &mut sink);
+    let status = status_of(alloc, &words, &mut source, &mut sink);
     let written = sink.bytes().to_vec(alloc)?;
     let left = read_all(alloc, &mut source)?;
-    Ok((outcome.status(), written, left.len()))
+    Ok((status, written, left.len()))
 }
 
 #[test]
@@ -428,20 +394,11 @@ fn words_that_mean_nothing(rt: HostRuntime) -> Result<(), Fail> {
         "plai",
         "Plain",
         "check extra",
+        "poly extra",
+        "poly --seed",
+        "poly --seed -1",
+        "poly --seed 1 --seed 1",
         "make",
-    ];
-    for line in rows {
-        let (status, written, left) = run_line(rt.alloc(), line)?;
-        assert_eq!(rt; status, 2);
-        assert_eq!(rt; written.as_slice(), b"usage\n".as_slice());
-        assert_eq!(rt; left, 5);
-    }
-    Ok(())
-}
-
-#[test]
-fn words_of_make_that_mean_nothing(rt: HostRuntime) -> Result<(), Fail> {
-    let rows = [
         "make cyclic",
         "make cyclic 1",
         "make cyclic 17",
@@ -518,17 +475,5 @@ fn the_least_and_the_greatest_numbers(rt: HostRuntime) -> Result<(), Fail> {
         assert_eq!(rt; status, 0);
         assert_eq!(rt; left, 5);
     }
-    Ok(())
-}
-
-#[test]
-fn plain_lists_what_make_writes(rt: HostRuntime) -> Result<(), Fail> {
-    let (status, made, _) = run_line(rt.alloc(), "make cyclic 3 --seed 1")?;
-    assert_eq!(rt; status, 0);
-    let (status, listing) = run(rt.alloc(), "plain", &made)?;
-    assert_eq!(rt; status, 0);
-    let (status, answer) = run(rt.alloc(), "check", &listing)?;
-    assert_eq!(rt; status, 0);
-    assert_eq!(rt; answer.as_slice(), b"yes\n".as_slice());
     Ok(())
 }

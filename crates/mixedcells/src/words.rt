@@ -34,6 +34,8 @@ pub enum Command {
     Generic,
     /// `powers`: write the powers of each cell of a listing that is judged right.
     Powers,
+    /// `poly`: write the problem file of a system of polynomials with the heights behind this seed.
+    Poly(u64),
     /// `make`: write the problem file of this family with the heights behind this seed.
     Make(Family, u64),
 }
@@ -49,6 +51,7 @@ impl Command {
             Command::Check => true,
             Command::Generic => true,
             Command::Powers => true,
+            Command::Poly(_) => true,
             Command::Make(_, _) => false,
         }
     }
@@ -86,6 +89,7 @@ fn built(meaning: Meaning) -> Option<Command>
         Meaning::Check => Some(Command::Check),
         Meaning::Generic => Some(Command::Generic),
         Meaning::Powers => Some(Command::Powers),
+        Meaning::Poly(seed) => Some(Command::Poly(seed)),
         Meaning::Make(family, seed) => Some(Command::Make(family, seed)),
     }
 }

@@ -13,8 +13,8 @@ use Rattle.mixedcells.specs.declared.words.meaning.Meaning.{Meaning}
 use Rattle.mixedcells.specs.declared.words.meaning.Meaning.TheVariants as meaning
 use Rattle.mixedcells.specs.CommandLine.{top}
 use Rattle.mixedcells.specs.Reading.{read}
-use Rattle.mixedcells.specs.Words.{after, alone, number, searchers_in, searchers, meaning_found, meaning_of, made}
-use Rattle.mixedcells.proofs.CommandLine.Shapes.{plain_taken, plain_read, check_taken, check_read, powers_taken, powers_read, generic_taken, generic_read, list_taken, list_read, list_joined_taken, list_joined_read, list_two_taken, list_two_read, sum_taken, sum_read, sum_joined_taken, sum_joined_read, sum_two_taken, sum_two_read}
+use Rattle.mixedcells.specs.Words.{after, alone, number, searchers_in, seed_in, searchers, system_seed, meaning_found, meaning_of, made}
+use Rattle.mixedcells.proofs.CommandLine.Shapes.{plain_taken, plain_read, check_taken, check_read, powers_taken, powers_read, generic_taken, generic_read, poly_taken, poly_read, poly_joined_taken, poly_joined_read, poly_two_taken, poly_two_read, list_taken, list_read, list_joined_taken, list_joined_read, list_two_taken, list_two_read, sum_taken, sum_read, sum_joined_taken, sum_joined_read, sum_two_taken, sum_two_read}
 
 abbrev pub IsRead : List Text → Meaning → Type 0
 IsRead ws m = (takes top ws ≡ true) × (meaning_found (read (subcommand_of top ws)) ≡ Some m)
@@ -67,6 +67,26 @@ powers_law (w ∷ ws) m e = cc
 generic_law : (ws : List Text) (m : Meaning) → alone meaning.Generic ws ≡ Some m → IsRead (codes "generic" ∷ ws) m
 generic_law [] m e = (generic_taken, ap meaning_found generic_read ∙ e)
 generic_law (w ∷ ws) m e = cc
+
+poly_joined_law : (w : Text) (o : Option Text) (m : Meaning) → after (codes "--seed=") w ≡ o → option_map meaning.Poly (option_and_then seed_in o) ≡ Some m → IsRead (codes "poly" ∷ w ∷ []) m
+poly_joined_law w None m s e = cc
+poly_joined_law w (Some v) m s e = subst (λ t. IsRead (codes "poly" ∷ t ∷ []) m) (sym (after_is (codes "--seed=") w v s)) (poly_joined_taken v, ap meaning_found (poly_joined_read v) ∙ e)
+
+poly_value_law : (v : Text) (m : Meaning) → option_map meaning.Poly (seed_in v) ≡ Some m → (x : ℕ) × (xs : Text) × (v ≡ x ∷ xs) × ((x == 45) ≡ false) → IsRead (codes "poly" ∷ codes "--seed" ∷ v ∷ []) m
+poly_value_law v m e p = subst (λ t. IsRead (codes "poly" ∷ codes "--seed" ∷ t ∷ []) m) (sym p.2)
+    (poly_two_taken p.0 p.1 p.3, ap meaning_found (poly_two_read p.0 p.1 p.3) ∙ subst (λ t. option_map meaning.Poly (seed_in t) ≡ Some m) p.2 e)
+
+poly_two_law : (w v : Text) (b : Bool) (m : Meaning) → bytes_eq w (codes "--seed") ≡ b → option_map meaning.Poly (if b then seed_in v else None) ≡ Some m → IsRead (codes "poly" ∷ w ∷ v ∷ []) m
+poly_two_law w v false m s e = cc
+poly_two_law w v true m s e =
+    let k = some_of meaning.Poly (seed_in v) m e in
+    subst (λ t. IsRead (codes "poly" ∷ t ∷ v ∷ []) m) (sym (is_same w (codes "--seed") s)) (poly_value_law v m e (number_starts 0 18446744073709551615 v k.0 k.1))
+
+poly_law : (ws : List Text) (m : Meaning) → option_map meaning.Poly (system_seed ws) ≡ Some m → IsRead (codes "poly" ∷ ws) m
+poly_law [] m e = (poly_taken, ap meaning_found poly_read ∙ e)
+poly_law (w ∷ []) m e = poly_joined_law w (after (codes "--seed=") w) m refl e
+poly_law (w ∷ v ∷ []) m e = poly_two_law w v (bytes_eq w (codes "--seed")) m refl e
+poly_law (w ∷ v ∷ u ∷ ws) m e = cc
 
 list_joined_law : (w : Text) (o : Option Text) (m : Meaning) → after (codes "--searchers=") w ≡ o → option_map meaning.List (option_and_then searchers_in o) ≡ Some m → IsRead (codes "list" ∷ w ∷ []) m
 list_joined_law w None m s e = cc
@@ -122,6 +142,7 @@ law_above w ws m make e =
     chosen w (codes "check") ws (bytes_eq w (codes "check")) _ _ m refl e1 (check_law ws m) (λ e2.
     chosen w (codes "powers") ws (bytes_eq w (codes "powers")) _ _ m refl e2 (powers_law ws m) (λ e3.
     chosen w (codes "generic") ws (bytes_eq w (codes "generic")) _ _ m refl e3 (generic_law ws m) (λ e4.
-    chosen w (codes "list") ws (bytes_eq w (codes "list")) _ _ m refl e4 (list_law ws m) (λ e5.
-    chosen w (codes "sum") ws (bytes_eq w (codes "sum")) _ _ m refl e5 (sum_law ws m) (λ e6.
-    chosen w (codes "make") ws (bytes_eq w (codes "make")) _ _ m refl e6 make (λ e7. let b : ⊥ = cc in absurd b)))))))
+    chosen w (codes "poly") ws (bytes_eq w (codes "poly")) _ _ m refl e4 (poly_law ws m) (λ e5.
+    chosen w (codes "list") ws (bytes_eq w (codes "list")) _ _ m refl e5 (list_law ws m) (λ e6.
+    chosen w (codes "sum") ws (bytes_eq w (codes "sum")) _ _ m refl e6 (sum_law ws m) (λ e7.
+    chosen w (codes "make") ws (bytes_eq w (codes "make")) _ _ m refl e7 make (λ e8. let b : ⊥ = cc in absurd b))))))))

@@ -5,7 +5,7 @@ use Rattle.clap.specs.Takes.{takes}
 use Rattle.clap.specs.Simple.{subcommand_of}
 use Rattle.clap.proofs.OnLiterals.{clap_on_literals}
 use Rattle.mixedcells.specs.CommandLine.{top}
-use Rattle.mixedcells.specs.Reading.{read, read_searchers}
+use Rattle.mixedcells.specs.Reading.{read, read_searchers, read_seed}
 
 pub plain_taken : takes top (codes "plain" ∷ []) ≡ true
 unfolding clap_on_literals
@@ -38,6 +38,30 @@ generic_taken = refl
 pub generic_read : read (subcommand_of top (codes "generic" ∷ [])) ≡ Some (read_searchers (codes "generic") None)
 unfolding clap_on_literals
 generic_read = refl
+
+pub poly_taken : takes top (codes "poly" ∷ []) ≡ true
+unfolding clap_on_literals
+poly_taken = refl
+
+pub poly_read : read (subcommand_of top (codes "poly" ∷ [])) ≡ Some (read_seed (codes "poly") None)
+unfolding clap_on_literals
+poly_read = refl
+
+pub poly_joined_taken : (v : Text) → takes top (codes "poly" ∷ (codes "--seed=" ++ v) ∷ []) ≡ true
+unfolding clap_on_literals
+poly_joined_taken v = refl
+
+pub poly_joined_read : (v : Text) → read (subcommand_of top (codes "poly" ∷ (codes "--seed=" ++ v) ∷ [])) ≡ Some (read_seed (codes "poly") (Some v))
+unfolding clap_on_literals
+poly_joined_read v = refl
+
+pub poly_two_taken : (x : ℕ) (xs : Text) → (x == 45) ≡ false → takes top (codes "poly" ∷ codes "--seed" ∷ (x ∷ xs) ∷ []) ≡ true
+unfolding clap_on_literals
+poly_two_taken x xs hx = simp hx refl
+
+pub poly_two_read : (x : ℕ) (xs : Text) → (x == 45) ≡ false → read (subcommand_of top (codes "poly" ∷ codes "--seed" ∷ (x ∷ xs) ∷ [])) ≡ Some (read_seed (codes "poly") (Some (x ∷ xs)))
+unfolding clap_on_literals
+poly_two_read x xs hx = simp hx refl
 
 pub list_taken : takes top (codes "list" ∷ []) ≡ true
 unfolding clap_on_literals

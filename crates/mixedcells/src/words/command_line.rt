@@ -81,13 +81,29 @@ fn generic_line<'a>(alloc: Global) -> Result<Command<'a>, AllocError>
     powers_line(alloc)?.subcommand(Command::new(alloc, "generic"))
 }
 
+// `poly` with the seed as an option.
+fn system_command<'a>(alloc: Global) -> Result<Command<'a>, AllocError>
+    ensures app { IfOk result (λ c. app_of c ≡ spec.system_app) }
+    ensures local { IfOk result (λ c. (out-Command c).has_globals ≡ false) }
+{
+    Command::new(alloc, "poly").arg(Arg::new(alloc, "seed").long("seed"))
+}
+
+// The same and `poly`.
+fn system_line<'a>(alloc: Global) -> Result<Command<'a>, AllocError>
+    ensures app { IfOk result (λ c. app_of c ≡ spec.system_line) }
+{
+    let poly = system_command(alloc)?;
+    generic_line(alloc)?.subcommand(poly)
+}
+
 // The whole command line.
 fn command_line<'a>(alloc: Global) -> Result<Command<'a>, AllocError>
     ensures app { IfOk result (λ c. app_of c ≡ spec.top) }
 {
     let list = searching_command(alloc, "list")?;
     let sum = searching_command(alloc, "sum")?;
-    generic_line(alloc)?.subcommand(list)?.subcommand(sum)
+    system_line(alloc)?.subcommand(list)?.subcommand(sum)
 }
 
 /// Reads words that have a meaning. Want of memory is the one refusal.

@@ -20,6 +20,8 @@ pub enum Meaning {
     Check,
     Powers,
     Generic,
+    /// `poly`, behind this seed.
+    Poly(u64),
     /// `make`, of this family and behind this seed.
     Make(Family, u64),
 }

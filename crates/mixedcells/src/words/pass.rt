@@ -20,6 +20,7 @@ pub fn meaning(words: &[String]) -> Option<Meaning>
         "check" => alone(Meaning::Check, rest),
         "powers" => alone(Meaning::Powers, rest),
         "generic" => alone(Meaning::Generic, rest),
+        "poly" => Some(Meaning::Poly(system_seed(rest)?)),
         "list" => Some(Meaning::List(searchers(rest)?)),
         "sum" => Some(Meaning::Sum(searchers(rest)?)),
         "make" => made(rest),
@@ -44,6 +45,24 @@ fn searchers(words: &[String]) -> Option<u64>
         [name, value] => {
             if name.as_str() == "--searchers" {
                 searchers_in(value.as_str())
+            } else {
+                None
+            }
+        }
+        _ => None,
+    }
+}
+
+// The seed that the words after `poly` ask for.
+fn system_seed(words: &[String]) -> Option<u64>
+    ensures { result ≡ spec.system_seed (map string_bytes words.now) }
+{
+    match words {
+        [] => Some(1),
+        [joined] => seed_in(after("--seed=", joined.as_str())?),
+        [name, value] => {
+            if name.as_str() == "--seed" {
+                seed_in(value.as_str())
             } else {
                 None
             }

@@ -30,6 +30,7 @@ fn meaning_below(name: &str, matches: &ArgMatches) -> Option<Meaning>
         "check" => Some(Meaning::Check),
         "powers" => Some(Meaning::Powers),
         "generic" => Some(Meaning::Generic),
+        "poly" => poly(seed_read(first_value(matches, "seed"))),
         "list" => list(searchers_read(first_value(matches, "searchers"))),
         "sum" => sum(searchers_read(first_value(matches, "searchers"))),
         _ => {
@@ -49,6 +50,12 @@ fn first_value<'a>(matches: &ArgMatches<'a>, id: &str) -> Option<&'a str>
     ensures { option_map (λ s. s.now) result ≡ first_of id.now (rows_of (found_of matches.now)) }
 {
     matches.get_str(id)
+}
+
+fn poly(seed: Option<u64>) -> Option<Meaning>
+    ensures { result ≡ option_map meaning.Poly seed }
+{
+    Some(Meaning::Poly(seed?))
 }
 
 fn list(searchers: Option<u64>) -> Option<Meaning>

@@ -1,7 +1,7 @@
 use Rattle.std.proofs.Common.{◌≡◌, inr, Some, [], map, string_bytes, ap, arith, refl, rules, false, IsTrue}
 use Rattle.mixedcells.specs.Words.{needs_team}
 use Rattle.mixedcells.specs.Outcomes.{status_of}
-use Rattle.mixedcells.specs.declared.words.Command.TheVariants.{Plain, Check, Generic, Make}
+use Rattle.mixedcells.specs.declared.words.Command.TheVariants.{Plain, Check, Generic, Poly, Make}
 use Rattle.mixedcells.proofs.CommandLine.Words.{no_reader, reader, same_team}
 use Rattle.mixedcells.proofs.CommandLine.Ranges.{fits}
 use Rattle.mixedcells.proofs.Ended.{appends_as, usage_cut, usage_written}
@@ -9,6 +9,8 @@ use Rattle.mixedcells.proofs.Exact.{tie_other, cell_other, team_other, called_ma
 use Rattle.mixedcells.proofs.AlongPaths as along
 use Rattle.mixedcells.proofs.Teams.{no_team, asked_for, usage_alone, meant_team, team_called, appends_none, no_other, no_walk, no_reading, walking_meant}
 use Rattle.mixedcells.proofs.Judged.{checked, judged, spares, plain_spared, list_spared}
+use Rattle.mixedcells.proofs.QuietFiles.{never_unfit, usage_fits, meant_tree_fits, passes}
+use Rattle.mixedcells.proofs.LiftedSystems.{told}
 use Rattle.mixedcells.proofs.top.run_alone.Goals as goal
 
 pub returns-in-Ok-clause-written : goal.returns-in-Ok-clause-written
@@ -109,6 +111,26 @@ pub returns-in-Ok-clause-walked : goal.returns-in-Ok-clause-walked
 returns-in-Ok-clause-walked g c = λ bytes file left short walks f safe fits.
     along.walked (map string_bytes c.args.words.now) bytes file _ short walks f safe fits (λ other. let w = returns-in-Ok-clause-written g c other in (w.0, known (map string_bytes c.args.words.now) _ bytes _ _ left w.1))
 
+pub returns-in-Ok-clause-quiet : goal.returns-in-Ok-clause-quiet
+returns-in-Ok-clause-quiet g c = λ bytes file left f quiet cell is.
+    let w = returns-in-Ok-clause-written g c (cell_other _ cell is) in
+    never_unfit bytes file f quiet (map string_bytes c.args.words.now) _ _ w.0 cell left w.1 is
+
+pub returns-in-Ok-clause-walked_quiet : goal.returns-in-Ok-clause-walked_quiet
+returns-in-Ok-clause-walked_quiet g c = λ bytes file left short walks f safe quiet.
+    along.walked (map string_bytes c.args.words.now) bytes file _ short walks f safe (meant_tree_fits bytes file f quiet)
+    (λ other. let w = returns-in-Ok-clause-written g c other in (w.0, known (map string_bytes c.args.words.now) _ bytes _ _ left w.1))
+
+pub returns-in-Ok-clause-passes : goal.returns-in-Ok-clause-passes
+returns-in-Ok-clause-passes g c = λ bytes file left means written quiet.
+    passes bytes file written quiet (map string_bytes c.args.words.now) means _
+    (λ other. let w = returns-in-Ok-clause-written g c other in (w.0, known (map string_bytes c.args.words.now) _ bytes _ _ left w.1))
+
+pub returns-in-Ok-clause-systems : goal.returns-in-Ok-clause-systems
+returns-in-Ok-clause-systems g c = λ bytes seed left short means.
+    told seed bytes _ _ _ (map string_bytes c.args.words.now) short means
+    (λ other. let w = returns-in-Ok-clause-written g c other in (w.0, known (map string_bytes c.args.words.now) _ bytes _ _ left w.1, w.2))
+
 pub returns-in-Ok-clause-needs_team : goal.returns-in-Ok-clause-needs_team
 returns-in-Ok-clause-needs_team g c =
     let few : needs_team c.in-Some.command ≡ false = search rules in (
@@ -197,6 +219,21 @@ returns-then-needs_team-clause-walked g c = λ bytes file left short walks f saf
     let team : IsTrue (needs_team c.in-Some.command) = search rules in
     no_walk (map string_bytes c.args.words.now) c.in-Some.command c.in-Some.ensures.meaning team walks
 
+pub returns-then-needs_team-clause-walked_quiet : goal.returns-then-needs_team-clause-walked_quiet
+returns-then-needs_team-clause-walked_quiet g c = λ bytes file left short walks f safe quiet.
+    let team : IsTrue (needs_team c.in-Some.command) = search rules in
+    no_walk (map string_bytes c.args.words.now) c.in-Some.command c.in-Some.ensures.meaning team walks
+
+pub returns-then-needs_team-clause-passes : goal.returns-then-needs_team-clause-passes
+returns-then-needs_team-clause-passes g c = λ bytes file left means written quiet.
+    let team : IsTrue (needs_team c.in-Some.command) = search rules in
+    no_other (map string_bytes c.args.words.now) c.in-Some.command Check c.in-Some.ensures.meaning team refl means
+
+pub returns-then-needs_team-clause-systems : goal.returns-then-needs_team-clause-systems
+returns-then-needs_team-clause-systems g c = λ bytes seed left short means.
+    let team : IsTrue (needs_team c.in-Some.command) = search rules in
+    no_other (map string_bytes c.args.words.now) c.in-Some.command (Poly seed) c.in-Some.ensures.meaning team refl means
+
 pub returns-then-needs_team-clause-needs_team : goal.returns-then-needs_team-clause-needs_team
 returns-then-needs_team-clause-needs_team g c =
     let team : IsTrue (needs_team c.in-Some.command) = search rules in
@@ -221,6 +258,18 @@ returns-in-None-clause-untouched g c = λ e. usage_alone _ _ _ _ _ _ c.finish.en
 
 pub returns-in-None-clause-walked : goal.returns-in-None-clause-walked
 returns-in-None-clause-walked g c = λ bytes file left short walks f safe fits. absurd (c.in-None.ensures.meaning (walking_meant (map string_bytes c.args.words.now) walks))
+
+pub returns-in-None-clause-quiet : goal.returns-in-None-clause-quiet
+returns-in-None-clause-quiet g c = λ bytes file left f quiet cell is. usage_fits _ _ _ _ _ _ cell c.finish.ensures.ends is
+
+pub returns-in-None-clause-walked_quiet : goal.returns-in-None-clause-walked_quiet
+returns-in-None-clause-walked_quiet g c = λ bytes file left short walks f safe quiet. absurd (c.in-None.ensures.meaning (walking_meant (map string_bytes c.args.words.now) walks))
+
+pub returns-in-None-clause-passes : goal.returns-in-None-clause-passes
+returns-in-None-clause-passes g c = λ bytes file left means written quiet. absurd (c.in-None.ensures.meaning (Check, means))
+
+pub returns-in-None-clause-systems : goal.returns-in-None-clause-systems
+returns-in-None-clause-systems g c = λ bytes seed left short means. absurd (c.in-None.ensures.meaning (Poly seed, means))
 
 pub returns-in-None-clause-tie_cause : goal.returns-in-None-clause-tie_cause
 returns-in-None-clause-tie_cause g c = λ bytes proof left walks is. absurd (c.in-None.ensures.meaning (walking_meant (map string_bytes c.args.words.now) walks))
