@@ -32,7 +32,8 @@ use Rattle.searcher.specs.Searches.{IsFound, IsStopped, IsLeft, IsOfLeft, FindsS
 use Rattle.listing_text.specs.Listings.{AreMixedCells}
 use Rattle.cell_certificate.proofs.PlainPoints.{own_points}
 use Rattle.mixedcells.specs.Walks.{IsSafe, AreReached, AreReachedCells}
-use Rattle.mixedcells.specs.Journeys.{IsWalked, IsHalted, HasWalked, HasHalted}
+use Rattle.search_team.specs.PathSearches.{IsWalked, IsHalted}
+use Rattle.mixedcells.specs.Journeys.{HasWalked, HasHalted}
 
 -- ---- lists
 only : {X : Type 0} (x y : X) → Contains (x ∷ []) y → x ≡ y

@@ -2,7 +2,6 @@
 #![tactic(auto)]
 
 mod along;
-mod gate;
 mod lines;
 mod many;
 mod outcome;
@@ -13,7 +12,6 @@ mod top;
 mod walks;
 mod words;
 
-pub use gate::Gate;
 pub use many::run;
 pub use outcome::Outcome;
 pub use top::run_alone;

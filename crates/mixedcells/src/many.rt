@@ -24,13 +24,12 @@ ghost use Rattle.mixedcells.specs.Answers.{IsListingText, IsReply};
 ghost use Rattle.mixedcells.specs.Walks.{IsReachedListing, IsReachedSum, IsSumOf, IsSafe, TreeFits, IsTreeTie, IsTreeUnfit};
 ghost use Rattle.mixedcells.specs.Runs.{AreLoose, IsInput, IsAnswer, IsCalledFor, IsCutOff, IsFree, IsVerdict, IsWrittenListing, IsSpared, TakesNoMore};
 
-use crate::gate::Gate;
 use crate::outcome::Outcome;
 use crate::replies::Reply;
 use crate::together::{list_by, sum_by};
 use crate::top::{finish, read_input, run_alone};
 use crate::words::{Command, command_of, read_command};
-use edge_io::{ReadStop, Sink, Source};
+use edge_io::{Gate, ReadStop, Sink, Source};
 use std::alloc::Global;
 use std::sync::Wait;
 use std::thread::Threads;

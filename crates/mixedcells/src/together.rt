@@ -1,17 +1,14 @@
 // What `list` and `sum` reply by several searchers.
 ghost use Rattle.std.specs.Prelude.{◌≡◌, ◌⊎◌, ◌≤◌, IfOk, MatchResult, IsTrue};
-ghost use Rattle.cayley.specs.Problems.{IsStill};
-ghost use Rattle.start_system.specs.Started.{IsStarted, IsSearched};
-ghost use Rattle.mixedcells.specs.Answers.{IsReply, IsFileReply};
+ghost use Rattle.mixedcells.specs.Answers.{IsFileReply};
 ghost use Rattle.mixedcells.specs.Walks.{IsReachedListing, IsReachedSum, IsWalkReply};
-ghost use Rattle.mixedcells.specs.Words.{needs_team};
-ghost use Rattle.mixedcells.specs.ByMany.{by_one};
-ghost use Rattle.mixedcells.specs.Journeys.{IsWalked, IsHalted, HasWalked, HasHalted};
+ghost use Rattle.mixedcells.specs.Journeys.{HasWalked, HasHalted};
 
 use crate::along::{list_of, sum_of};
-use crate::gate::Gate;
 use crate::replies::{Reply, refusal};
-use cayley::{LiftFile, Problem};
+use cayley::LiftFile;
+use edge_io::Gate;
+use search_team::search_together;
 use searcher::{Found, HaltCause};
 use start_system::with_corners;
 use std::alloc::Global;
@@ -19,23 +16,6 @@ use std::sync::Wait;
 use std::thread::Threads;
 use support_text::{TextFault, read_problem};
 use wide_int::OutOfMemory;
-
-// Searches from the start branch of a path by a team.
-fn search_team<G: Gate, R: Threads + Wait + Sync>(
-    rt: &R,
-    alloc: Global,
-    problem: &Problem,
-    searchers: u32,
-    gate: &G,
-) -> Result<Found, HaltCause>
-    requires started { IsStarted problem.now }
-    requires still { IsStill problem.now }
-    requires searched { IsSearched problem.now }
-    requires many { (1 ≤ searchers) × (searchers ≤ 64) }
-    ensures { MatchResult result (IsWalked problem.now) (IsHalted problem.now) }
-{
-    Err(HaltCause::OutOfMemory)
-}
 
 // Walks along the path of a file from its start cell by a team.
 fn walk_by<G: Gate, R: Threads + Wait + Sync>(
@@ -52,7 +32,7 @@ fn walk_by<G: Gate, R: Threads + Wait + Sync>(
     let Ok(problem) = with_corners(alloc, file) else {
         return Err(HaltCause::OutOfMemory);
     };
-    search_team(rt, alloc, &problem, searchers, gate)
+    search_together(rt, alloc, &problem, searchers, gate)
 }
 
 /// What `list` replies by several searchers on the bytes of its whole input.

@@ -8,7 +8,8 @@ ghost use Rattle.start_system.specs.Started.{IsStarted, IsSearched};
 ghost use Rattle.searcher.specs.Expansions.{ShowsTieAtEnd, HasNoTie};
 ghost use Rattle.searcher.specs.Workings.{FitsWorking};
 ghost use Rattle.searcher.specs.Searches.{IsFound, IsStopped, FindsShare, FindsSize};
-ghost use Rattle.mixedcells.specs.Journeys.{IsWalked, IsHalted, HasWalked, HasHalted};
+ghost use Rattle.search_team.specs.PathSearches.{IsWalked, IsHalted};
+ghost use Rattle.mixedcells.specs.Journeys.{HasWalked, HasHalted};
 
 use cayley::{Begin, LiftFile, Problem};
 use cone_walls::Steps;

@@ -1,8 +1,8 @@
 //! `mixedcells`: the mixed cells of lifted supports, listed exactly.
 #![tactic(auto)]
 
-use edge_io::{StdSink, StdSource};
-use mixedcells::run_alone;
+use edge_io::{NoGate, StdSink, StdSource};
+use mixedcells::run;
 use std::env;
 use std::io::ErrorKind;
 use std::process::ExitCode;
@@ -23,6 +23,6 @@ fn main(rt: HostRuntime) -> ExitCode {
     };
     let mut source = StdSource::new(rt.stdin());
     let mut sink = StdSink::new(rt.stdout());
-    let outcome = run_alone(rt.alloc(), &words, &mut source, &mut sink);
+    let outcome = run(&rt, rt.alloc(), &words, &mut source, &mut sink, &NoGate);
     ExitCode::from(outcome.status())
 }

@@ -37,11 +37,12 @@ found_by xs f None e h = absurd (h refl)
 pub support_is : (n : ℕ) (v f : List Monomial) → HasValue n v f → IsSupport n v (keys_of f)
 support_is n v f p = record {
   ascending = p.is_map.ascending;
-  exactly = λ xs.
-      (λ c.
-      let long : length xs ≡ n = ap (λ (ys : List ℤ). length ys) (sym c.2) ∙ long_at n f c.0 xs p.long c.1 in
-      let some = IsSome-lookup_from_Contains laws xs f c in
-      (long, λ z. found_number xs f p.is_map.numbers some (coefficient_total xs f p.is_map.ascending ∙ p.same xs long ∙ z)),
-      λ q. Contains-keys_from_lookup (λ ys zs e. same_is ys zs e) xs f
-          (found_by xs f (lookup (is_at (exponents_cmp xs)) f) refl (λ z. q.1 (sym (p.same xs q.0) ∙ sym (coefficient_total xs f p.is_map.ascending) ∙ z))));
+  exactly = λ xs. (
+    λ c.
+        let long : length xs ≡ n = ap (λ (ys : List ℤ). length ys) (sym c.2) ∙ long_at n f c.0 xs p.long c.1 in
+        let some = IsSome-lookup_from_Contains laws xs f c in
+        (long, λ z. found_number xs f p.is_map.numbers some (coefficient_total xs f p.is_map.ascending ∙ p.same xs long ∙ z)),
+    λ q. Contains-keys_from_lookup (λ ys zs e. same_is ys zs e) xs f
+        (found_by xs f (lookup (is_at (exponents_cmp xs)) f) refl (λ z. q.1 (sym (p.same xs q.0) ∙ sym (coefficient_total xs f p.is_map.ascending) ∙ z))),
+  );
 }

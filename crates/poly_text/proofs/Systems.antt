@@ -123,9 +123,12 @@ series_ok zero n end before rows all e =
 series_ok (suc k) n end before rows all e =
     let a = bind_ok (polynomial_next n end rows) (λ (x : List (List ℤ) × List Row). series k (polynomial_at n end) (before ++ x.0 ∷ []) x.1) all e in
     let line = next_ok n end rows a.0 a.1 in
-    let r = series_ok k n end (before ++ a.0.0 ∷ []) a.0.1 all a.2 in
-    (a.0.0 ∷ r.0, r.1 ∙ append_assoc before (a.0.0 ∷ []) r.0, ap suc r.2,
-    record { right = line.0 ∷ r.3.right; split = line.1 ∙ ap (λ (l : List Row). line.0 ∷ l) r.3.split; are = are_more n line.0 r.3.right a.0.0 r.0 line.2 r.3.are })
+    let r = series_ok k n end (before ++ a.0.0 ∷ []) a.0.1 all a.2 in (
+      a.0.0 ∷ r.0,
+      r.1 ∙ append_assoc before (a.0.0 ∷ []) r.0,
+      ap suc r.2,
+      record { right = line.0 ∷ r.3.right; split = line.1 ∙ ap (λ (l : List Row). line.0 ∷ l) r.3.split; are = are_more n line.0 r.3.right a.0.0 r.0 line.2 r.3.are },
+    )
 
 next_err : (n end count : ℕ) (rows : List Row) (f : FormatFault) → count < n → polynomial_next n end rows ≡ Err f → FaultBehind end n count rows f
 unfolding polynomial_next
@@ -146,10 +149,12 @@ series_err (suc k) n end count before rows f h e = elim (bind_err (polynomial_ne
   | inr q ↦
       let line = next_ok n end rows q.0 q.1 in
       let r = series_err k n end (suc count) (before ++ q.0.0 ∷ []) q.0.1 f (omega (arith, h)) q.2 in
-      let same : suc count + length r.2.right ≡ count + suc (length r.2.right) = omega arith in
-      (q.0.0 ∷ r.0, r.1,
-      record { right = line.0 ∷ r.2.right; split = line.1 ∙ ap (λ (l : List Row). line.0 ∷ l) r.2.split; are = are_more n line.0 r.2.right q.0.0 r.0 line.2 r.2.are },
-      subst (λ (c : ℕ). FaultBehind end n c r.1 f) same r.3)
+      let same : suc count + length r.2.right ≡ count + suc (length r.2.right) = omega arith in (
+        q.0.0 ∷ r.0,
+        r.1,
+        record { right = line.0 ∷ r.2.right; split = line.1 ∙ ap (λ (l : List Row). line.0 ∷ l) r.2.split; are = are_more n line.0 r.2.right q.0.0 r.0 line.2 r.2.are },
+        subst (λ (c : ℕ). FaultBehind end n c r.1 f) same r.3,
+      )
 ]
 
 -- ---- the first line, and the end

@@ -48,7 +48,8 @@ fn three_sums(rt: HostRuntime) -> Result<(), Fail> {
 // katsura in three unknowns
 #[test]
 fn katsura(rt: HostRuntime) -> Result<(), Fail> {
-    let text = "system 3\nx1 + 2*x2 + 2*x3 - 1\nx1^2 + 2*x2^2 + 2*x3^2 - x1\n2*x1*x2 + 2*x2*x3 - x2\n";
+    let text =
+        "system 3\nx1 + 2*x2 + 2*x3 - 1\nx1^2 + 2*x2^2 + 2*x3^2 - x1\n2*x1*x2 + 2*x2*x3 - x2\n";
     let found = supports(rt.alloc(), text)?;
     let want: [i128; 47] = [
         0, 0, 0, 99, 0, 0, 1, 99, 0, 1, 0, 99, 1, 0, 0, 99, 77, 0, 0, 2, 99, 0, 2, 0, 99, 1, 0, 0,
