@@ -1,5 +1,5 @@
 // The top call for every number of searchers.
-ghost use Rattle.std.specs.Prelude.{◌≡◌, ◌≢◌, ◌⊎◌, ◌↔◌, ◌≤◌, List, ℕ, Some, Ok, IsTrue, IfOk, map, length, string_bytes};
+ghost use Rattle.std.specs.Prelude.{◌≡◌, ◌≢◌, ◌⊎◌, ◌↔◌, ◌≤◌, List, ℕ, Some, Ok, IsTrue, IfOk, MatchResult, map, length, string_bytes};
 ghost use Rattle.std.specs.Io.KnownBytes.{Appends, IsAtEnd};
 ghost use Rattle.edge_io.specs.Faults.{Rose};
 ghost use Rattle.cayley.specs.Cells.{Cell};
@@ -15,14 +15,16 @@ ghost use Rattle.cell_certificate.specs.Written.{AreMixed};
 ghost use Rattle.homotopy_rows.specs.Answers.{IsPowersText};
 ghost use Rattle.plain_lister.specs.Choices.{HasTooMany};
 ghost use Rattle.plain_lister.specs.Lists.{AllFit};
+ghost use Rattle.cell_bound.specs.Quiet.{IsQuiet};
+ghost use Rattle.poly_text.specs.SystemText.{system_of};
 ghost use Rattle.mixedcells.specs.declared.words.meaning.Family.{Family};
 ghost use Rattle.mixedcells.specs.Words.{Means, HasMeaning, IsReading, IsForTeam, IsWalking, needs_team};
 ghost use Rattle.mixedcells.specs.ByMany as by;
 ghost use Rattle.mixedcells.specs.ByMany.{by_one, searchers_of, for_one, IsJourney};
-ghost use Rattle.mixedcells.specs.Families.{family_file};
+ghost use Rattle.mixedcells.specs.Families.{family_file, lifted_text};
 ghost use Rattle.mixedcells.specs.Answers.{IsListingText, IsReply};
 ghost use Rattle.mixedcells.specs.Walks.{IsReachedListing, IsReachedSum, IsSumOf, IsSafe, TreeFits, IsTreeTie, IsTreeUnfit};
-ghost use Rattle.mixedcells.specs.Runs.{AreLoose, IsInput, IsAnswer, IsCalledFor, IsCutOff, IsFree, IsVerdict, IsWrittenListing, IsSpared, TakesNoMore};
+ghost use Rattle.mixedcells.specs.Runs.{AreLoose, IsInput, IsAnswer, IsCalledFor, IsCutOff, IsFree, IsVerdict, IsWrittenListing, IsSpared, Passes, TakesNoMore};
 
 use crate::outcome::Outcome;
 use crate::replies::Reply;
@@ -82,6 +84,14 @@ pub fn run<S: Source, K: Sink, G: Gate, R: Threads + Wait + Sync>(
     // It ends well where the heights are perturbed or the path has no tie, and the working of each cell of the path tree fits.
     ensures walked { (bytes : List ℕ) (file : File) → S.left source.old ≡ Some bytes → length bytes ≤ 16777216 → IsJourney (map string_bytes words.now)
         → problem_of bytes ≡ Ok file → IsSafe file → TreeFits file → (result ≡ Outcome.Ok) ⊎ IsFree result }
+    // In the quiet profile no command says that a cell doesn't fit, a walk ends well where the heights are perturbed or the path has no tie,
+    ensures quiet { (bytes : List ℕ) (file : File) → S.left source.old ≡ Some bytes → problem_of bytes ≡ Ok file → IsQuiet file
+        → (cell : Cell) → result ≢ Outcome.OverflowCell cell }
+    ensures walked_quiet { (bytes : List ℕ) (file : File) → S.left source.old ≡ Some bytes → length bytes ≤ 16777216 → IsJourney (map string_bytes words.now)
+        → problem_of bytes ≡ Ok file → IsSafe file → IsQuiet file → (result ≡ Outcome.Ok) ⊎ IsFree result }
+    // and a written listing passes, if it isn't too long to be read.
+    ensures passes { (bytes : List ℕ) (file : File) → S.left source.old ≡ Some bytes → Means (map string_bytes words.now) Command.Check → IsWrittenListing file bytes
+        → IsQuiet file → Passes bytes result ⊎ IsFree result }
     // What `list` that ends Ok has written is a written listing, which `check` spares.
     ensures written_reached { (searchers : ℕ) (bytes : List ℕ) → S.left source.old ≡ Some bytes → Means (map string_bytes words.now) (Command.List searchers) → result ≡ Outcome.Ok
         → (file : File) × (problem_of bytes ≡ Ok file) × ((text : List ℕ) × IsWrittenListing file text × Appends (K.held sink.old) (K.held sink.new) text) }
@@ -110,6 +120,9 @@ pub fn run<S: Source, K: Sink, G: Gate, R: Threads + Wait + Sync>(
     // `powers` that ends Ok has written exactly the powers of each cell of the listing, whose lines all pass.
     ensures powers { (bytes : List ℕ) → S.left source.old ≡ Some bytes → Means (map string_bytes words.now) Command.Powers → result ≡ Outcome.Ok
         → (listing : Listing) × IsListingText bytes listing × IsRight listing × ((text : List ℕ) × IsPowersText listing text × Appends (K.held sink.old) (K.held sink.new) text) }
+    // `poly` writes exactly the canonical text of the file that lifts the system which the bytes mean, or tells their first fault.
+    ensures systems { (bytes : List ℕ) (seed : ℕ) → S.left source.old ≡ Some bytes → length bytes ≤ 16777216 → Means (map string_bytes words.now) (Command.Poly seed)
+        → MatchResult (system_of bytes) (λ system. (result ≡ Outcome.Ok) × Appends (K.held sink.old) (K.held sink.new) (lifted_text seed system)) (λ fault. result ≡ Outcome.Format fault.line fault.kind) ⊎ IsFree result }
     ensures read_fault { result ≡ Outcome.ReadFault → Rose (S.faults source.old) (S.faults source.new) }
     // What `make` is asked for comes, whatever the source is, and Ok has written exactly the canonical text of the family's file.
     ensures made { (family : Family) (seed : ℕ) → Means (map string_bytes words.now) (Command.Make family seed) → (result ≡ Outcome.Ok) ⊎ IsFree result }

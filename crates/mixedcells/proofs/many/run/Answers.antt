@@ -1,10 +1,11 @@
 use Rattle.std.proofs.Common.{◌≡◌, map, string_bytes, rules, refl, subst, IsTrue}
-use Rattle.mixedcells.specs.declared.words.Command.TheVariants.{Plain, List, Sum, Check, Generic, Powers, Make}
+use Rattle.mixedcells.specs.declared.words.Command.TheVariants.{Plain, List, Sum, Check, Generic, Powers, Poly, Make}
 use Rattle.mixedcells.specs.Words.{IsForTeam, IsReading}
 use Rattle.mixedcells.specs.ByMany.{by_one, for_one}
 use Rattle.mixedcells.proofs.Exact.{tie_other, cell_other, team_other, comes, ok_other, known}
 use Rattle.mixedcells.proofs.AlongPaths as along
 use Rattle.mixedcells.proofs.Judged.{list_spared}
+use Rattle.mixedcells.proofs.QuietFiles.{never_unfit, meant_tree_fits}
 use Rattle.mixedcells.proofs.Teams.{asked_for}
 use Rattle.mixedcells.proofs.ForOne.{for_one_same, one_means, walking, team_command, team_meant, called_back, alone_words, reading_by_one}
 use Rattle.mixedcells.proofs.many.run.Goals as goal
@@ -195,3 +196,26 @@ pub returns-clause-whole : goal.returns-clause-whole
 returns-clause-whole g c = λ other reading long.
     let none : ¬ (IsForTeam (map string_bytes c.args.words.now)) = (let f : ¬ (IsTrue c.asks_for_team.result) = search rules in λ t. f (c.asks_for_team.ensures.1 t)) in
     c.run_alone.ensures.whole other (subst IsReading (for_one_same (map string_bytes c.args.words.now) none) reading) long
+
+pub returns-then-asks_for_team-clause-walked_quiet : goal.returns-then-asks_for_team-clause-walked_quiet
+returns-then-asks_for_team-clause-walked_quiet g c = λ bytes file left short walks f safe quiet.
+    along.walked (for_one (map string_bytes c.args.words.now)) bytes file _ short (walking (map string_bytes c.args.words.now) walks) f safe (meant_tree_fits bytes file f quiet) (λ other. let w = c.run_team.ensures.written other in (w.0, known (for_one (map string_bytes c.args.words.now)) _ bytes _ _ left w.1))
+
+pub returns-clause-walked_quiet : goal.returns-clause-walked_quiet
+returns-clause-walked_quiet g c = λ bytes file left short walks f safe quiet.
+    along.walked (for_one (map string_bytes c.args.words.now)) bytes file _ short (walking (map string_bytes c.args.words.now) walks) f safe (meant_tree_fits bytes file f quiet) (λ other. let w = returns-clause-written g c other in (w.0, known (for_one (map string_bytes c.args.words.now)) _ bytes _ _ left w.1))
+
+pub returns-then-asks_for_team-clause-quiet : goal.returns-then-asks_for_team-clause-quiet
+returns-then-asks_for_team-clause-quiet g c = λ bytes file left f quiet cell is.
+    let w = c.run_team.ensures.written (cell_other _ cell is) in
+    never_unfit bytes file f quiet (for_one (map string_bytes c.args.words.now)) _ _ w.0 cell left w.1 is
+
+pub returns-then-asks_for_team-clause-passes : goal.returns-then-asks_for_team-clause-passes
+returns-then-asks_for_team-clause-passes g c = λ bytes file left means written quiet.
+    let team : IsForTeam (map string_bytes c.args.words.now) = c.asks_for_team.ensures.0 (search rules) in
+    team_command (map string_bytes c.args.words.now) Check team means refl
+
+pub returns-then-asks_for_team-clause-systems : goal.returns-then-asks_for_team-clause-systems
+returns-then-asks_for_team-clause-systems g c = λ bytes seed left short means.
+    let team : IsForTeam (map string_bytes c.args.words.now) = c.asks_for_team.ensures.0 (search rules) in
+    team_command (map string_bytes c.args.words.now) (Poly seed) team means refl
