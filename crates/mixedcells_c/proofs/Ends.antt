@@ -84,10 +84,10 @@ module _ {words : List (List ℕ)} {input old new : List ℕ} {needed status : �
 
   pub for_team : IsForTeam words → ((status ≡ 11) × (needed ≡ 0) × (new ≡ old)) ⊎ (status ≡ 8)
   for_team team = by_way
-      (λ o t run at. let is = run.needs_team.1 team in let none = run.silent is in
-          inl (at.0 ∙ ap status_of is, subst (λ (x : List ℕ). Stands x old new needed) none at.1))
+      (λ o t run at. let is = run.needs_team.1 team in
+          let s = subst (λ (x : List ℕ). Stands x old new needed) (run.silent is) at.1 in inl (at.0 ∙ ap status_of is, s.0, s.1))
       (λ o t run at. let none = run.silent (run.needs_team.1 team) in
-          absurd (let less : length old < length [] = subst (λ (x : List ℕ). length old < length x) none at.2 in omega (arith, less)))
+          absurd (let less : length old < 0 = subst (λ (x : List ℕ). length old < length x) none at.2 in omega (arith, less)))
       (λ at. inr at.0)
 
   pub judged : (listing : Listing) → length input ≤ limit → Means words verb.Check → IsListingText input listing

@@ -33,4 +33,5 @@ team_alone _ e = absurd (omega (arith, e))
 
 -- none has the number that tells of no room
 pub room_is_none : (outcome : Outcome) → status_of outcome ≡ 256 → ⊥
+room_is_none variant.Ok e = omega (arith, e)
 room_is_none _ e = omega (arith, e)

@@ -2,7 +2,14 @@
 use Rattle.std.specs.Prelude.{◌≡◌, ◌⊎◌, ◌<◌, ℕ, List, ◌++◌, length, drop}
 use Rattle.mixedcells.specs.declared.outcome.Outcome.{Outcome}
 use Rattle.mixedcells.specs.Outcomes.{status_of}
-use Rattle.mixedcells_c.specs.declared.delivery.TheConstants.{NO_MEMORY, NO_ROOM}
+
+-- the status that tells of no memory, which an outcome has too
+abbrev pub no_memory : ℕ
+no_memory = 8
+
+-- the status that tells of no room, which no outcome has
+abbrev pub no_room : ℕ
+no_room = 256
 
 -- the bytes that a sink holds, and how many of its writes failed
 pub record Grown : Type 0 where
@@ -11,7 +18,7 @@ pub record Grown : Type 0 where
 
 -- no answer is given, for want of memory or of room
 abbrev pub IsWithheld : ℕ → Type 0
-IsWithheld status = (status ≡ NO_MEMORY) ⊎ (status ≡ NO_ROOM)
+IsWithheld status = (status ≡ no_memory) ⊎ (status ≡ no_room)
 
 -- the text stands at the front of the room, its length is told, and what stood behind it stays
 abbrev pub Stands : List ℕ → List ℕ → List ℕ → ℕ → Type 0
@@ -27,8 +34,8 @@ IsGiven outcome text old new needed status = (status ≡ status_of outcome) × S
 
 -- the text is longer than the room, which stays; its length is told
 abbrev pub HasNoRoom : List ℕ → List ℕ → List ℕ → ℕ → ℕ → Type 0
-HasNoRoom text old new needed status = (status ≡ NO_ROOM) × (needed ≡ length text) × (length old < length text) × (new ≡ old)
+HasNoRoom text old new needed status = (status ≡ no_room) × (needed ≡ length text) × (length old < length text) × (new ≡ old)
 
 -- there was no memory, and the room stays
 abbrev pub HasNoMemory : List ℕ → List ℕ → ℕ → ℕ → Type 0
-HasNoMemory old new needed status = (status ≡ NO_MEMORY) × (needed ≡ 0) × (new ≡ old)
+HasNoMemory old new needed status = (status ≡ no_memory) × (needed ≡ 0) × (new ≡ old)

@@ -1,4 +1,4 @@
-use Rattle.std.proofs.Common.{◌≡◌, ◌∙◌, Some, ap, inl, inr, refl, subst, ⊎_elim, List, ℕ}
+use Rattle.std.proofs.Common.{◌≡◌, ◌∙◌, Some, map, string_bytes, ap, inl, inr, refl, subst, ⊎_elim, List, ℕ}
 use Rattle.support_text.specs.Writing.{problem_text}
 use Rattle.listing_text.specs.Listings.{IsListingOf}
 use Rattle.homotopy_rows.specs.Answers.{IsPowersText}
@@ -9,18 +9,19 @@ use Rattle.mixedcells_c.specs.Buffers.{Grown}
 use Rattle.mixedcells_c.proofs.Ends.{here, bound_to}
 use Rattle.mixedcells_c.proofs.runs.run_words.Goals as goal
 
-pub returns : goal.returns
-returns c =
+pub returns-in_default : goal.returns-in_default
+returns-in_default c =
     let r = c.run_alone-outcome.ensures in
     let outcome = c.run_alone-outcome.result in
-    let n = c.in_default-outcome in
+    let n = c.in_default in
     let bound : ¬ (IsFree outcome) = ⊎_elim n.not-ReadFault (⊎_elim n.not-WriteFault n.not-OutOfMemory) in
+    let words = map string_bytes c.args.words.now in
     let input = c.args.input.now in
     let bytes : c.new-source.result ≡ input = c.new-source.ensures in
     let known = ap Some bytes in
     let text = here c.new-sink.result _ _ c.new-sink.ensures c.into_bytes.ensures in record {
       bound = bound;
-      written = let w = r.written bound in text (λ t. IsCalledFor _ (Some input) outcome t) (w.0, subst (λ (b : List ℕ). IsCalledFor _ (Some b) outcome w.0) bytes w.1, w.2);
+      written = let w = r.written bound in text (λ t. IsCalledFor words (Some input) outcome t) (w.0, subst (λ (b : List ℕ). IsCalledFor words (Some b) outcome w.0) bytes w.1, w.2);
       exact = λ other said called. ⊎_elim inl (⊎_elim (λ f. absurd (bound f)) inr) (r.exact input other said known called);
       listing = λ means ok. let l = r.listing input known means ok in (l.0, l.1, text (IsListingOf l.0) l.2);
       complete = λ file short means is few fit. bound_to bound (r.complete input file known short means is few fit);
