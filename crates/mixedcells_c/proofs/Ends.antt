@@ -1,5 +1,5 @@
 -- What follows from how a call ended.
-use Rattle.std.proofs.Common.{◌≡◌, ◌≢◌, ◌⊎◌, ◌∙◌, ◌<◌, ◌≤◌, ℕ, List, [], ◌++◌, length, Some, Ok, refl, sym, ap, subst, inl, inr, ⊎_elim, arith}
+use Rattle.std.proofs.Common.{◌≡◌, ◌≢◌, ◌⊎◌, ◌∙◌, ◌<◌, ◌≤◌, ℕ, List, [], ◌++◌, length, Some, Ok, sym, ap, subst, inl, inr, ⊎_elim, arith}
 use Rattle.cayley.specs.Cells.{Cell}
 use Rattle.cayley.specs.declared.found.TieProof.{TieProof}
 use Rattle.cayley.specs.Files.{File}
@@ -85,9 +85,9 @@ module _ {words : List (List ℕ)} {input old new : List ℕ} {needed status : �
   pub for_team : IsForTeam words → ((status ≡ 11) × (needed ≡ 0) × (new ≡ old)) ⊎ (status ≡ 8)
   for_team team = by_way
       (λ o t run at. let is = run.needs_team.1 team in
-          let s = subst (λ (x : List ℕ). Stands x old new needed) (run.silent is) at.1 in inl (at.0 ∙ ap status_of is, s.0, s.1))
+      let s = subst (λ (x : List ℕ). Stands x old new needed) (run.silent is) at.1 in inl (at.0 ∙ ap status_of is, s.0, s.1))
       (λ o t run at. let none = run.silent (run.needs_team.1 team) in
-          absurd (let less : length old < 0 = subst (λ (x : List ℕ). length old < length x) none at.2 in omega (arith, less)))
+      absurd (let less : length old < 0 = subst (λ (x : List ℕ). length old < length x) none at.2 in omega (arith, less)))
       (λ at. inr at.0)
 
   pub judged : (listing : Listing) → length input ≤ limit → Means words verb.Check → IsListingText input listing

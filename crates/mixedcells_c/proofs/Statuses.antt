@@ -1,5 +1,5 @@
 -- Which outcome a status tells.
-use Rattle.std.proofs.Common.{◌≡◌, ℕ, refl, arith}
+use Rattle.std.proofs.Common.{◌≡◌, refl, arith}
 use Rattle.cayley.specs.declared.found.TieProof.{TieProof}
 use Rattle.mixedcells.specs.declared.outcome.Outcome.{Outcome}
 use Rattle.mixedcells.specs.declared.outcome.Outcome.TheVariants as variant

@@ -13,7 +13,12 @@ fn answers_stand_in_front(rt: HostRuntime) -> Result<(), Fail> {
         (b"list", SEGMENT, 0, &listing),
         (b"plain", SEGMENT, 0, &listing),
         (b"check", &listing, 0, b"yes\n"),
-        (b"make scatter 1 1 0", b"", 0, b"mixedcells 1\ndim 1\nsupport 1\n0 : 7100271\nend\n"),
+        (
+            b"make scatter 1 1 0",
+            b"",
+            0,
+            b"mixedcells 1\ndim 1\nsupport 1\n0 : 7100271\nend\n",
+        ),
         (b"list", b"", 3, b"format: line 1 kind 8\n"),
         (b"list --searchers 2", SEGMENT, 11, b""),
         (b"lists", SEGMENT, 2, b"usage\n"),

@@ -1,4 +1,4 @@
-use Rattle.std.proofs.Common.{rules, ◌≡◌, ◌∙◌, ◌==◌, ℕ, List, [], IfOk, map, string_bytes, ap, sym, subst}
+use Rattle.std.proofs.Common.{rules, ◌≡◌, ◌∙◌, ◌==◌, ℕ, List, IfOk, map, string_bytes, ap, sym, subst}
 use Rattle.std.specs.List.{slice_split}
 use Rattle.mixedcells_c.proofs.CommandWords.{text_words, no_words}
 use Rattle.mixedcells_c.proofs.command_words.words_of.Goals as goal

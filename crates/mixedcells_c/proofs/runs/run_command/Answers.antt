@@ -1,4 +1,4 @@
-use Rattle.std.proofs.Common.{◌≡◌, ◌∙◌, ℕ, List, IfOk, map, string_bytes, ap, subst}
+use Rattle.std.proofs.Common.{◌∙◌, ℕ, List, IfOk, map, string_bytes, ap, subst}
 use Rattle.mixedcells_c.specs.Runs.{IsRun}
 use Rattle.mixedcells_c.proofs.runs.run_command.Goals as goal
 
