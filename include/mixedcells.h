@@ -39,15 +39,14 @@ enum {
  *
  * `room` says how many bytes `answer` has room for. Where the answer is longer, MIXEDCELLS_NO_ROOM is returned, `answer`
  * stays as it was, and `*length` is the room that the same call needs. That call computes everything again. So give
- * much at once: bytes of `answer` behind the answer aren't touched, and of a large block from malloc only the pages that
- * are touched take memory. 64 MiB is enough for most. How many cells there are is told by "sum" in a few bytes, though
- * in the same time as "list".
+ * much at once, as 64 MiB: bytes of `answer` behind the answer aren't touched, and of a large block from malloc only the
+ * pages that are touched take memory. A listing has the file's own lines and at most 865 bytes for each cell.
  *
  * All memory stays whose it was: what is passed is the caller's, what the call takes it gives back. It takes it by malloc,
  * realloc and free of the program, which must be of one allocator and align as malloc does.
  *
  * Calls share nothing: several threads may call at once, on different `answer` and `length`. The call runs in its caller's
- * thread and may take as long as the program does; it can't be cut short. A stack of 1 MiB is enough.
+ * thread and may take as long as the program does; it can't be cut short.
  *
  * What a caller owes, and nothing checks:
  * - No pointer is null, also where its length is 0; `answer` may then point to anything that is there.
