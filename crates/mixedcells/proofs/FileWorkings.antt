@@ -62,7 +62,7 @@ module _ (gs : List ℕ) where
   same_walls m (s ∷ ss) (u ∷ us) [] a r w = absurd r
   same_walls m (s ∷ ss) (u ∷ us) (x ∷ cell) a r w = (
     (λ c f. subst₂ (FitsWall m) (same_point s u a.0 x.0 r.0.0 (omega (arith, r.0.1, r.0.2))) (same_point s u a.0 c f.0 f.1)
-    (w.0 c (let long = a.0.long in (f.0, omega (arith, f.1, long), f.2, f.3)))),
+        (w.0 c (let long = a.0.long in (f.0, omega (arith, f.1, long), f.2, f.3)))),
     same_walls m ss us cell a.1 r.1 w.1,
   )
 

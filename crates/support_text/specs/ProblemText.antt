@@ -5,6 +5,7 @@ use Rattle.std.specs.Ordering.{int_eq}
 use Rattle.std.specs.Cmp.Lexicographic.{pointwise}
 use Rattle.line_text.specs.Lines.{Row, lines_of, end_line_of}
 use Rattle.cayley.specs.Problems.{Version, version1, version2}
+use Rattle.cayley.specs.declared.limits.TheConstants.{DIMENSIONS, POINTS, COORDINATE, HEIGHT}
 use Rattle.cayley.specs.Files.{File, FilePoint}
 use Rattle.support_text.specs.declared.fault.Kind.{Kind}
 use Rattle.support_text.specs.declared.fault.Kind.TheVariants.{Header, Dim, Count, Number, Range, Repeated, Start, Missing, Extra}
@@ -37,15 +38,15 @@ counting_line text limit kind line ws = do
 
 -- `dim N`
 abbrev pub dim_line : ℕ → List Text → Reading ℕ
-dim_line = counting_line (codes "dim") (pos 16) Dim
+dim_line = counting_line (codes "dim") (pos DIMENSIONS) Dim
 
 -- `support M`
 abbrev pub count_line : ℕ → List Text → Reading ℕ
-count_line = counting_line (codes "support") (pos 1000) Count
+count_line = counting_line (codes "support") (pos POINTS) Count
 
 -- a coordinate
 abbrev pub coordinate : ℕ → List ℤ → List Text → Reading (ℤ × List Text)
-coordinate line before = number (neg_ℤ (pos 1000000)) (pos 1000000) Number Range line
+coordinate line before = number (neg_ℤ (pos COORDINATE)) (pos COORDINATE) Number Range line
 
 -- n coordinates
 abbrev pub coordinates : ℕ → ℕ → List Text → Reading (List ℤ × List Text)
@@ -60,7 +61,7 @@ unfoldable pub point_line : ℕ → List FilePoint → ℕ → List Text → Rea
 point_line n earlier line ws = do
   xs ← coordinates n line ws
   rest ← word (codes ":") Number line xs.1
-  height ← number (neg_ℤ (pos 1000000000)) (pos 1000000000) Number Range line rest
+  height ← number (neg_ℤ (pos HEIGHT)) (pos HEIGHT) Number Range line rest
   ended ← nothing_more Number line height.1
   if is_among xs.0 earlier then Err (fault line Repeated) else Ok (record { coordinates = xs.0; height = height.0 })
 
@@ -84,7 +85,7 @@ supports n end = series n (support_at n end) []
 
 -- a start height
 abbrev pub start_height : ℕ → List ℤ → List Text → Reading (ℤ × List Text)
-start_height line before = number (pos 1) (pos 1000000000) Start Start line
+start_height line before = number (pos 1) (pos HEIGHT) Start Start line
 
 -- n - 1 start heights
 unfoldable pub start_heights : ℕ → ℕ → List Text → Reading (List ℤ)

@@ -11,9 +11,9 @@ use crate::lines::{next_line, nothing_more, number, word};
 use cayley::Version;
 use line_text::{Line, Lines};
 
-const DIMENSIONS: i128 = 16;
+const DIMENSIONS: i128 = cayley::DIMENSIONS as i128;
 
-const POINTS: i128 = 1_000;
+const POINTS: i128 = cayley::POINTS as i128;
 
 // `1` or `2`
 #[tactic(auto, unfolding(crate::specs::ProblemText::version_word))]

@@ -14,7 +14,8 @@ use crate::opening::Opening;
 use line_text::{Line, Lines};
 use std::alloc::Global;
 
-const START: i128 = 1_000_000_000;
+// The greatest start height, which is the greatest height.
+const START: i128 = cayley::HEIGHT as i128;
 
 // Takes the first word of a line.
 fn first_word(line: &mut Line) -> Opening

@@ -17,9 +17,9 @@ use int_vectors::IntVec;
 use line_text::{Line, Lines};
 use std::alloc::Global;
 
-const COORDINATE: i128 = 1_000_000;
+const COORDINATE: i128 = cayley::COORDINATE as i128;
 
-const HEIGHT: i128 = 1_000_000_000;
+const HEIGHT: i128 = cayley::HEIGHT as i128;
 
 // `n` coordinates.
 fn coordinates(alloc: Global, n: usize, line: &mut Line) -> Result<IntVec, TextFault>
