@@ -62,9 +62,9 @@ fn numbered(passes: &AtomicU64) -> u64 {
 impl HoldGate {
     // Notes who passes.
     fn note(&self, searcher: u64) {
-        if let Err(first) =
-            self.first
-                .compare_exchange(0, searcher, Ordering::SeqCst, Ordering::SeqCst)
+        if let Err(first) = self
+            .first
+            .compare_exchange(0, searcher, Ordering::SeqCst, Ordering::SeqCst)
         {
             if first != searcher {
                 self.other.store(true, Ordering::SeqCst);

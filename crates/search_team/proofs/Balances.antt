@@ -62,63 +62,63 @@ module _ (p : Problem) where
   balance_sum ins outs more others F f n m a b =
       by_weights (ins ++ more) (outs ++ others) (F ++ f) (n + m)
       (λ share gives c.
-          let w = weighs ins outs F n a share gives c in
-          let v = weighs more others f m b share gives c in
-          let i = sum_by-append (weight share c) ins more in
-          let o = sum_by-append (weight share c) outs others in
-          let s = ap (count c) (found_list F f) ∙ count-append c (cells_of F) (cells_of f) in
-          omega (arith, w, v, i, o, s))
+      let w = weighs ins outs F n a share gives c in
+      let v = weighs more others f m b share gives c in
+      let i = sum_by-append (weight share c) ins more in
+      let o = sum_by-append (weight share c) outs others in
+      let s = ap (count c) (found_list F f) ∙ count-append c (cells_of F) (cells_of f) in
+      omega (arith, w, v, i, o, s))
       (λ size cost gives given.
-          let w = costs ins outs F n a size cost gives given in
-          let v = costs more others f m b size cost gives given in
-          let i = sum_by-append (price cost) ins more in
-          let o = sum_by-append (price cost) outs others in
-          omega (arith, w, v, i, o))
+      let w = costs ins outs F n a size cost gives given in
+      let v = costs more others f m b size cost gives given in
+      let i = sum_by-append (price cost) ins more in
+      let o = sum_by-append (price cost) outs others in
+      omega (arith, w, v, i, o))
 
   pub balance_permuted : (ins ins' outs outs' : List Branch) (F F' : List FoundCell) (n : ℕ) → IsPermutation ins ins' → IsPermutation outs outs' → IsPermutation F F'
       → IsBalance p ins outs F n → IsBalance p ins' outs' F' n
   balance_permuted ins ins' outs outs' F F' n moved gone found a =
       by_weights ins' outs' F' n
       (λ share gives c.
-          let w = weighs ins outs F n a share gives c in
-          let i = sum_by-IsPermutation (weight share c) ins ins' moved in
-          let o = sum_by-IsPermutation (weight share c) outs outs' gone in
-          let s = count_permutation c (cells_of F) (cells_of F') (IsPermutation-map (λ (x : FoundCell). x.cell) F F' found) in
-          omega (arith, w, i, o, s))
+      let w = weighs ins outs F n a share gives c in
+      let i = sum_by-IsPermutation (weight share c) ins ins' moved in
+      let o = sum_by-IsPermutation (weight share c) outs outs' gone in
+      let s = count_permutation c (cells_of F) (cells_of F') (IsPermutation-map (λ (x : FoundCell). x.cell) F F' found) in
+      omega (arith, w, i, o, s))
       (λ size cost gives given.
-          let w = costs ins outs F n a size cost gives given in
-          let i = sum_by-IsPermutation (price cost) ins ins' moved in
-          let o = sum_by-IsPermutation (price cost) outs outs' gone in
-          omega (arith, w, i, o))
+      let w = costs ins outs F n a size cost gives given in
+      let i = sum_by-IsPermutation (price cost) ins ins' moved in
+      let o = sum_by-IsPermutation (price cost) outs outs' gone in
+      omega (arith, w, i, o))
 
   -- branches that come in and go out
   pub balance_more : (ins outs more : List Branch) (F : List FoundCell) (n : ℕ) → IsBalance p ins outs F n → IsBalance p (ins ++ more) (outs ++ more) F n
   balance_more ins outs more F n a =
       by_weights (ins ++ more) (outs ++ more) F n
       (λ share gives c.
-          let w = weighs ins outs F n a share gives c in
-          let i = sum_by-append (weight share c) ins more in
-          let o = sum_by-append (weight share c) outs more in
-          omega (arith, w, i, o))
+      let w = weighs ins outs F n a share gives c in
+      let i = sum_by-append (weight share c) ins more in
+      let o = sum_by-append (weight share c) outs more in
+      omega (arith, w, i, o))
       (λ size cost gives given.
-          let w = costs ins outs F n a size cost gives given in
-          let i = sum_by-append (price cost) ins more in
-          let o = sum_by-append (price cost) outs more in
-          omega (arith, w, i, o))
+      let w = costs ins outs F n a size cost gives given in
+      let i = sum_by-append (price cost) ins more in
+      let o = sum_by-append (price cost) outs more in
+      omega (arith, w, i, o))
 
   pub balance_less : (ins outs more : List Branch) (F : List FoundCell) (n : ℕ) → IsBalance p (ins ++ more) (outs ++ more) F n → IsBalance p ins outs F n
   balance_less ins outs more F n a =
       by_weights ins outs F n
       (λ share gives c.
-          let w = weighs (ins ++ more) (outs ++ more) F n a share gives c in
-          let i = sum_by-append (weight share c) ins more in
-          let o = sum_by-append (weight share c) outs more in
-          omega (arith, w, i, o))
+      let w = weighs (ins ++ more) (outs ++ more) F n a share gives c in
+      let i = sum_by-append (weight share c) ins more in
+      let o = sum_by-append (weight share c) outs more in
+      omega (arith, w, i, o))
       (λ size cost gives given.
-          let w = costs (ins ++ more) (outs ++ more) F n a size cost gives given in
-          let i = sum_by-append (price cost) ins more in
-          let o = sum_by-append (price cost) outs more in
-          omega (arith, w, i, o))
+      let w = costs (ins ++ more) (outs ++ more) F n a size cost gives given in
+      let i = sum_by-append (price cost) ins more in
+      let o = sum_by-append (price cost) outs more in
+      omega (arith, w, i, o))
 
   -- one search after the other
   pub shares_then : (given left rest : List Branch) (F f : List FoundCell) → KeepShares p given (cells_of F) left → KeepShares p left (cells_of f) rest → KeepShares p given (cells_of (F ++ f)) rest

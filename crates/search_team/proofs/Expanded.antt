@@ -29,21 +29,33 @@ Costs p b kids old new = (k : ℕ) × (new ≡ min (old + k) top) × CostMore p 
 
 module _ (p : Problem) (still : IsStillProblem p) (b : Branch) (kids : List Branch) (old new : ℕ) (few : old ≤ top) (s : Solved p top (branch_of b) old new) where
   costs_of : (own : List Cell) → IsTurn p (branch_of b) own (branches_of kids) → Costs p b kids old new
-  costs_of own (inl t) = (1, s.0 (true_of p (branch_of b) t.0), (λ size cost gives costs.
-      let k = cost_step p still.problem size gives cost costs (branch_of b) t.0 (branches_of kids) t.2 in
-      let l = sum_by-cons cost (branch_of b) [] in
-      omega (arith, k, l)))
+  costs_of own (inl t) = (
+    1,
+    s.0 (true_of p (branch_of b) t.0),
+    (λ size cost gives costs.
+        let k = cost_step p still.problem size gives cost costs (branch_of b) t.0 (branches_of kids) t.2 in
+        let l = sum_by-cons cost (branch_of b) [] in
+        omega (arith, k, l)),
+  )
   costs_of own (inr t) = elim (dec_of p b.cell) [
-    | yes of ↦ (1, s.0 of, (λ size cost gives costs.
-        let k = cost_stranger p still.problem size gives cost costs (branch_of b) t.0 of in
-        let l = sum_by-cons cost (branch_of b) [] in
-        let z = ap (sum_by cost) t.2 in
-        omega (arith, k, l, z)))
-    | no m ↦ (0, (let e = s.1 m in omega (arith, e, few)), (λ size cost gives costs.
-        let k = cost_foreign p still.problem size gives cost costs (branch_of b) m in
-        let l = sum_by-cons cost (branch_of b) [] in
-        let z = ap (sum_by cost) t.2 in
-        omega (arith, k, l, z)))
+    | yes of ↦ (
+      1,
+      s.0 of,
+      (λ size cost gives costs.
+          let k = cost_stranger p still.problem size gives cost costs (branch_of b) t.0 of in
+          let l = sum_by-cons cost (branch_of b) [] in
+          let z = ap (sum_by cost) t.2 in
+          omega (arith, k, l, z)),
+    )
+    | no m ↦ (
+      0,
+      (let e = s.1 m in omega (arith, e, few)),
+      (λ size cost gives costs.
+          let k = cost_foreign p still.problem size gives cost costs (branch_of b) m in
+          let l = sum_by-cons cost (branch_of b) [] in
+          let z = ap (sum_by cost) t.2 in
+          omega (arith, k, l, z)),
+    )
   ]
 
 module _ (p : Problem) (still : IsStillProblem p) (b : Branch) (e : Expansion) (is : IsExpansion p b e) where

@@ -15,6 +15,5 @@ pub use paths::search_together;
 pub use stopping::{Part, TeamStopped};
 pub use team::search_shared;
 
-
 #[cfg(test)]
 mod tests;

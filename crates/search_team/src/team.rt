@@ -42,11 +42,7 @@ fn unbegun(alloc: Global, branches: Vec<Branch>) -> TeamStopped
 }
 
 // A team of one needs no pool.
-fn alone(
-    alloc: Global,
-    problem: &Problem,
-    branches: Vec<Branch>,
-) -> Result<Found, TeamStopped>
+fn alone(alloc: Global, problem: &Problem, branches: Vec<Branch>) -> Result<Found, TeamStopped>
     requires still { IsStill problem.now }
     ensures answer { MatchResult result (IsSharedFound problem.now branches.items) (IsTeamStopped problem.now branches.items) }
     ensures unoffered { IfErr result (IsHandedBack branches) }

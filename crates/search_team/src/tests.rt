@@ -200,7 +200,14 @@ fn the_start_branch_and_a_stranger(rt: HostRuntime) -> Result<(), Fail> {
 fn a_cell_of_the_target(rt: HostRuntime) -> Result<(), Fail> {
     let problem = two_squares(rt.alloc())?;
     let last = branch(rt.alloc(), &[(1, 2), (1, 4)], at(17)?)?;
-    let found = found(&rt, rt.alloc(), &problem, just(rt.alloc(), last)?, 2, &NoGate)?;
+    let found = found(
+        &rt,
+        rt.alloc(),
+        &problem,
+        just(rt.alloc(), last)?,
+        2,
+        &NoGate,
+    )?;
     let cells = positions(rt.alloc(), &found.cells)?;
     assert!(rt; cells.as_slice() == [1, 2, 1, 4].as_slice());
     assert_eq!(rt; found.solves, 1);
@@ -213,7 +220,15 @@ fn a_tie_hands_the_start_branch_back(rt: HostRuntime) -> Result<(), Fail> {
     for searchers in [1u32, 2] {
         assert!(rt; searchers >= 1 && searchers <= 64);
         let start = branch(rt.alloc(), &[(3, 4)], Begin::Start)?;
-        let Err(stopped) = shared(&rt, rt.alloc(), &problem, just(rt.alloc(), start)?, searchers, &NoGate)? else {
+        let Err(stopped) = shared(
+            &rt,
+            rt.alloc(),
+            &problem,
+            just(rt.alloc(), start)?,
+            searchers,
+            &NoGate,
+        )?
+        else {
             return Err(OutOfMemory.into());
         };
         if let HaltCause::Tie(proof) = &stopped.cause {
