@@ -12,7 +12,7 @@ ghost use Rattle.cayley.specs.Rows.{edge_rows};
 ghost use Rattle.cayley.specs.Dependencies.{IsFurtherAt, support_at};
 ghost use Rattle.inner_normal.specs.Inverses.{inverse_of};
 ghost use Rattle.reduced_rows.specs.CellRefusals.{IsEliminated};
-ghost use Rattle.carried_inverse.specs.Systems.{IsInverseOfCell};
+ghost use Rattle.carried_inverse.specs.Systems.{line, IsInverseOfCell};
 ghost use Rattle.carried_inverse.specs.Exchanges.{IsExchanged, HasExchangeRoom};
 ghost use Rattle.carried_inverse.specs.Answers.{IsExchange, IsStep, IsFlip, HasPairSigns};
 
@@ -209,6 +209,22 @@ impl Carried {
         ensures { result ≡ length self.now.columns }
     {
         self.columns.len()
+    }
+
+    /// The denominator.
+    pub fn den(&self) -> i64
+        ensures value { result ≡ self.now.den }
+        ensures positive { pos 0 <ℤ result }
+    {
+        self.den
+    }
+
+    /// The column at a place, which counts from 0: its numbers are over the denominator.
+    pub fn column(&self, place: usize) -> &[i64]
+        requires { place < length self.now.columns }
+        ensures { result.now ≡ line self.now.columns place }
+    {
+        self.columns[place].as_slice()
     }
 
     /// The inverse of the rows with `row` in the place of the one at `place`, counted from 0.
