@@ -1,0 +1,15 @@
+pub mod EntrySteps
+pub mod ColumnSteps
+pub mod Turning
+pub mod Exchanging
+pub mod Rooms
+pub mod FromRows
+pub mod LowestRows
+pub mod Across
+pub mod Normals
+pub mod PairFalls
+pub mod Independence
+pub mod OneInverse
+pub mod Between
+pub mod PairSigns
+pub mod CellFlips
