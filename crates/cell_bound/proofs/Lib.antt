@@ -2,5 +2,5 @@ mod RowRanges
 mod Circuits
 mod CellWorkings
 mod Apart
-mod SmallFiles
+pub mod SmallFiles
 mod Worked
