@@ -1,5 +1,5 @@
 -- In the quiet profile every working fits: no command says that a cell doesn't, a walk ends well, and a written listing passes.
-use Rattle.std.proofs.Common.{◌≡◌, ◌⊎◌, ◌≤◌, ◌<◌, ◌∙◌, ℕ, List, length, ℤ, pos, Option, None, Some, Ok, arith, refl, sym, ap, subst, inl, inr}
+use Rattle.std.proofs.Common.{◌≡◌, ◌⊎◌, ◌≤◌, ◌<◌, ◌∙◌, ◌∷◌, [], ℕ, List, length, ℤ, pos, Option, None, Some, Ok, arith, refl, sym, ap, subst, inl, inr}
 use Rattle.int_vectors.specs.Vectors.{Each}
 use Rattle.reduced_rows.specs.Denominators.{shares}
 use Rattle.cayley.specs.Problems.{Problem, point_at}
