@@ -33,7 +33,7 @@ pub enum Entry {
     Dead,
 }
 
-// Whether a line is positive at time 0.
+/// Whether a line is positive at time 0.
 pub fn is_positive(line: &WallLine) -> bool
     requires { FitsLine line.now }
     ensures { IsTrue result ↔ IsPositive (constant line.now) }

@@ -30,6 +30,7 @@ pub enum Exit {
     },
 }
 
+/// Whether a line is zero at all times.
 pub fn is_flat(line: &WallLine) -> bool
     requires { FitsLine line.now }
     ensures { IsTrue result ↔ IsFlat line.now }
@@ -40,7 +41,7 @@ pub fn is_flat(line: &WallLine) -> bool
     }
 }
 
-// The index of the first line that is zero at all times.
+/// The index of the first line that is zero at all times.
 pub fn first_flat(lines: &[WallLine]) -> Option<usize>
     requires { All FitsLine lines.now }
     ensures { IsFirstFlat lines.now result }

@@ -186,7 +186,7 @@ fn run_command<S: Source, K: Sink>(
     }
 }
 
-// What a command reads: all that the source has left, or nothing.
+/// What a command reads: all that the source has left, or nothing.
 pub fn read_input<S: Source>(
     alloc: Global,
     command: Command,
@@ -204,7 +204,7 @@ pub fn read_input<S: Source>(
     read_all(alloc, source)
 }
 
-// Writes the text of an outcome.
+/// Writes the text of an outcome.
 pub fn finish<K: Sink>(sink: &mut K, text: &[u8], outcome: Outcome) -> Outcome
     ensures ends { Finishes (K.held sink.old) (K.held sink.new) (K.faults sink.old) (K.faults sink.new) text.now outcome result }
     ensures later { K.faults sink.old ≤ K.faults sink.new }

@@ -9,6 +9,7 @@ pub struct Progress {
 }
 
 impl Progress {
+    /// A count of open branches, and whether a searcher has halted already.
     pub fn new(open: u64, halted: bool) -> Progress {
         Progress {
             open: AtomicU64::new(open),
@@ -31,10 +32,12 @@ impl Progress {
         self.open.load(Ordering::SeqCst) == 0
     }
 
+    /// A searcher has halted.
     pub fn halt(&self) {
         self.halted.store(true, Ordering::SeqCst);
     }
 
+    /// Whether some searcher has halted.
     pub fn is_halted(&self) -> bool {
         self.halted.load(Ordering::SeqCst)
     }

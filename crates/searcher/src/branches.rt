@@ -11,18 +11,21 @@ pub struct Branch {
 }
 
 impl Branch {
+    /// A branch of this cell and begin, taken as told: nothing is tested.
     pub fn new(cell: Cell, begin: Begin) -> Branch
         ensures { result ≡ record { cell = cell; begin = begin } }
     {
         Branch { cell, begin }
     }
 
+    /// The cell.
     pub fn cell(&self) -> &Cell
         ensures { result.now ≡ self.now.cell }
     {
         &self.cell
     }
 
+    /// Where the cell is said to begin.
     pub fn begin(&self) -> &Begin
         ensures { result.now ≡ self.now.begin }
     {
