@@ -19,6 +19,7 @@ use Rattle.listing_text.proofs.Formed.{meant_valid}
 use Rattle.searcher.specs.declared.expansions.HaltCause.{HaltCause}
 use Rattle.searcher.specs.declared.expansions.HaltCause.TheVariants.{Tie, Overflow, OutOfMemory}
 use Rattle.searcher.specs.declared.searching.Found.{Found}
+use Rattle.searcher.specs.declared.counting.Counted.{Counted}
 use Rattle.lex_height.specs.Values as values
 use Rattle.cayley.specs.Problems.{Problem}
 use Rattle.plain_lister.specs.Choices.{HasTooMany, IsExcess}
@@ -31,8 +32,8 @@ use Rattle.mixedcells.specs.declared.outcome.Outcome.{Outcome}
 use Rattle.mixedcells.specs.declared.outcome.Outcome.TheVariants as variant
 use Rattle.mixedcells.specs.Words.{Means, IsWalking}
 use Rattle.mixedcells.specs.Outcomes.{status_of, sum_lines, tie_free_line, too_many_line, overflow_cell, IsTieLine}
-use Rattle.mixedcells.specs.Walks.{IsSafe, TreeFits, IsReachedListing, IsReachedSum, IsSumOf, IsTreeTie, IsTreeUnfit, IsWalkReply, IsTieReply}
-use Rattle.mixedcells.specs.Journeys.{HasWalked, HasHalted, TellsCause}
+use Rattle.mixedcells.specs.Walks.{top_count, IsSafe, TreeFits, IsReachedListing, IsReachedSum, IsSumOf, IsTreeTie, IsTreeUnfit, IsWalkReply, IsTieReply}
+use Rattle.mixedcells.specs.Journeys.{HasWalked, HasCounted, HasHalted, TellsCause}
 use Rattle.mixedcells.specs.Answers.{limit, IsFileReply, IsAloneReply}
 use Rattle.mixedcells.specs.Runs.{IsCalledFor, IsFree}
 use Rattle.mixedcells.proofs.Readings.{ok_once, not_both}
@@ -46,10 +47,18 @@ tells_walk W file (Tie proof) o t h told = subst (λ q. IsWalkReply W file q t) 
 tells_walk W file (Overflow cell) o t h told = subst (λ q. IsWalkReply W file q t) (sym told.0) (told.1, h)
 tells_walk W file OutOfMemory o t h told = absurd told
 
-pub sum_written : (file : File) (found : Found) (n : ℕ) (text : List ℕ) → HasWalked file found → n ≡ length found.cells.items → text ≡ sum_lines n found.solves → IsReachedSum file text
-sum_written file found n text w e f =
-    let cells = map (λ (x : FoundCell). x.cell) found.cells.items in
-    (cells, w.tree.0, w.cells.cells, w.tree.1, f ∙ ap₂ sum_lines (e ∙ sym (length-map found.cells.items (λ (x : FoundCell). x.cell))) w.tree.2)
+pub sum_written : (file : File) (counted : Counted) (text : List ℕ) → HasCounted file counted → text ≡ sum_lines counted.cells counted.solves → IsReachedSum file text
+sum_written file counted text w f = (w.cells.0, w.tree.0, w.cells.1, w.tree.1, f ∙ ap₂ sum_lines w.cells.2 w.tree.2)
+
+-- what was found, counted
+pub found_counted : (file : File) (found : Found) (counted : Counted) → HasWalked file found → length found.cells.items ≤ top_count → counted.cells ≡ length found.cells.items → counted.solves ≡ found.solves
+    → HasCounted file counted
+found_counted file found counted w few e f =
+    let long = length-map found.cells.items (λ (x : FoundCell). x.cell) in
+    record {
+      cells = (map (λ (x : FoundCell). x.cell) found.cells.items, w.cells.cells, omega (arith, e, long, few));
+      tree = (w.tree.0, w.tree.1, f ∙ w.tree.2);
+    }
 
 -- ---- ties of a path
 module _ (file : File) (p : Problem) (e : p ≡ path file) where

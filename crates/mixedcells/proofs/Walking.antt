@@ -1,6 +1,6 @@
 -- What a search from the start branch of a path says of the path, and of its file.
 use Rattle.std.proofs.Common.{◌≡◌, ◌⊎◌, ◌≤◌, ◌<◌, ◌∙◌, ℕ, zero, suc, List, [], ◌∷◌, map, length, min, arith, refl, sym, ap, subst, inl, inr, Result, Ok, Err}
-use Rattle.std.specs.Prelude.{Contains, MatchResult}
+use Rattle.std.specs.Prelude.{Contains, IfOk, IfErr, MatchResult}
 use Rattle.int_vectors.specs.Vectors.{Each}
 use Rattle.cayley.specs.Times.{time_zero}
 use Rattle.cayley.specs.Problems.{Problem, IsProblem, Version, version1, version2, file_points}
@@ -16,7 +16,8 @@ use Rattle.cayley.specs.Ties.{IsTieFree}
 use Rattle.cayley.specs.declared.found.Begin.TheVariants.{Start}
 use Rattle.cayley.specs.declared.found.FoundCell.{FoundCell}
 use Rattle.cayley.proofs.Lists.Each.{each_weaker}
-use Rattle.cayley.proofs.Searching.Shares.{a_size}
+use Rattle.cayley.proofs.Searching.FilePoints.{dec_mixed}
+use Rattle.cayley.proofs.Searching.Shares.{a_size, a_share}
 use Rattle.cayley.proofs.Searching.Steps.{size_some}
 use Rattle.start_system.specs.Started.{start_branch, IsSearched, IsTreeSize}
 use Rattle.start_system.proofs.Started.SearchLaws.{path_law}
@@ -25,6 +26,8 @@ use Rattle.searcher.specs.declared.expansions.HaltCause.{HaltCause}
 use Rattle.searcher.specs.declared.expansions.HaltCause.TheVariants.{Tie, Overflow, OutOfMemory}
 use Rattle.searcher.specs.declared.searching.Found.{Found}
 use Rattle.searcher.specs.declared.searching.Stopped.{Stopped}
+use Rattle.searcher.specs.declared.counting.Counted.{Counted}
+use Rattle.searcher.specs.Counts.{IsCounted, IsBehind, CountsShare, CountsSize}
 use Rattle.searcher.specs.Expansions.{HasLowestNormal, ShowsTieAtEnd, HasNoTie}
 use Rattle.searcher.specs.Workings.{FitsWorking}
 use Rattle.searcher.specs.Branches.{branch_of}
@@ -33,7 +36,7 @@ use Rattle.listing_text.specs.Listings.{AreMixedCells}
 use Rattle.cell_certificate.proofs.PlainPoints.{own_points}
 use Rattle.mixedcells.specs.Walks.{IsSafe, AreReached, AreReachedCells}
 use Rattle.search_team.specs.PathSearches.{IsWalked, IsHalted}
-use Rattle.mixedcells.specs.Journeys.{HasWalked, HasHalted}
+use Rattle.mixedcells.specs.Journeys.{HasWalked, HasCounted, HasHalted, IsPathCount}
 
 -- ---- lists
 only : {X : Type 0} (x y : X) → Contains (x ∷ []) y → x ≡ y
@@ -82,6 +85,15 @@ module _ (p : Problem) (well : IsProblem p) (s : IsSearched p) (given : List Bra
         tree = (n.0, (s.size n.0).0 n.1, size (start p) n.0 alone n.1 (size_some p (start_branch p) n.0 n.1 s.early.0));
       }
 
+  counted : (c : Counted) → IsCounted p given c → CountsShare p given c → CountsSize p given c → IsPathCount p c
+  counted c f share size =
+      let n = a_size p well (start_branch p) in
+      let cells = a_share p well (IsMixedCell p) (dec_mixed p well) (start_branch p) in
+      record {
+        cells = (cells.0, cells.1, share (start p) cells.0 alone cells.1);
+        tree = (n.0, (s.size n.0).0 n.1, size (start p) n.0 alone n.1 (size_some p (start_branch p) n.0 n.1 s.early.0));
+      }
+
   told_in_tree : (left : List Branch) (cell : Cell) → Each left (IsLeft p given) → Contains (map (λ (b : Branch). b.cell) left) cell → IsInTree p (start_cell p) cell
   told_in_tree left cell each c =
       let f = found_left (IsLeft p given) left cell each c in
@@ -94,6 +106,11 @@ module _ (p : Problem) (well : IsProblem p) (s : IsSearched p) (given : List Bra
 
   pub halted : (stopped : Stopped) → IsStopped p given stopped → ShowsTieAtEnd p stopped.cause → (IsTieFree p → HasNoTie stopped.cause) → IsHalted p stopped.cause
   halted stopped h shows none = halted_by stopped.left.items stopped.cause h.left h.cause shows none
+
+  pub count_walked : (r : Result Counted HaltCause) → MatchResult r (IsCounted p given) (IsBehind p given) → IfOk r (CountsShare p given) → IfOk r (CountsSize p given) → IfErr r (ShowsTieAtEnd p)
+      → (IsTieFree p → IfErr r HasNoTie) → MatchResult r (IsPathCount p) (IsHalted p)
+  count_walked (Ok c) f share size shows none = counted c f share size
+  count_walked (Err cause) h share size shows none = halted_by h.0 cause h.1 h.2 shows none
 
 -- ---- the path of a file
 first_version : (v : Version) → ¬ (v ≡ version2) → v ≡ version1
@@ -133,6 +150,10 @@ module _ (file : File) (valid : IsValidFile file) where
   pub file_walk : (p : Problem) → p ≡ path file → (r : Result Found HaltCause) → MatchResult r (IsWalked p) (IsHalted p) → MatchResult r (HasWalked file) (HasHalted file)
   file_walk p e (Ok found) h = file_walked p e found h
   file_walk p e (Err cause) h = file_halted p e cause h
+
+  pub file_count : (p : Problem) → p ≡ path file → (r : Result Counted HaltCause) → MatchResult r (IsPathCount p) (IsHalted p) → MatchResult r (HasCounted file) (HasHalted file)
+  file_count p e (Ok counted) h = subst (λ q. IsPathCount q counted) e h
+  file_count p e (Err cause) h = file_halted p e cause h
 
   -- ---- a path without a tie
   pub free_of : IsSafe file → IsTieFree (path file)

@@ -54,13 +54,13 @@ IsReachedListing file text = (found : List FoundCell) × AreReachedCells file fo
 abbrev pub top_count : ℕ
 top_count = 2 ^ 64 - 1
 
--- the number of those cells, and the size of the path tree or the greatest count, if that is less
+-- the number of those cells, and the size of the path tree, each or the greatest count, if that is less
 abbrev pub IsReachedSum : File → List ℕ → Type 0
-IsReachedSum file text = (cells : List Cell) × (tree : ℕ) × AreReached file cells × IsTreeSize (path file) tree × (text ≡ sum_lines (length cells) (min tree top_count))
+IsReachedSum file text = (cells : List Cell) × (tree : ℕ) × AreReached file cells × IsTreeSize (path file) tree × (text ≡ sum_lines (min (length cells) top_count) (min tree top_count))
 
 -- the same of all mixed cells of the file's points
 abbrev pub IsSumOf : File → List ℕ → Type 0
-IsSumOf file text = (cells : List Cell) × (tree : ℕ) × IsListOf (IsMixedCell (plain_problem file)) cells × IsTreeSize (path file) tree × (text ≡ sum_lines (length cells) (min tree top_count))
+IsSumOf file text = (cells : List Cell) × (tree : ℕ) × IsListOf (IsMixedCell (plain_problem file)) cells × IsTreeSize (path file) tree × (text ≡ sum_lines (min (length cells) top_count) (min tree top_count))
 
 -- a tie at an end of a cell of the path tree; there is none in version 2
 abbrev pub IsTreeTie : File → TieProof → Type 0

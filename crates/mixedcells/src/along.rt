@@ -4,16 +4,16 @@ ghost use Rattle.lex_height.specs.Values.{IsLowest};
 ghost use Rattle.mixedcells.specs.Outcomes as lines;
 ghost use Rattle.mixedcells.specs.Outcomes.{IsTieLine};
 ghost use Rattle.mixedcells.specs.Walks.{IsReachedListing, IsReachedSum, IsWalkReply, IsTieReply};
-ghost use Rattle.mixedcells.specs.Journeys.{TellsCause, HasWalked, HasHalted};
+ghost use Rattle.mixedcells.specs.Journeys.{TellsCause, HasWalked, HasCounted, HasHalted};
 
 use crate::lines::{overflow_cell, sum_lines, tie_free_line, tie_line, too_many_line};
 use crate::outcome::Outcome;
 use crate::replies::Reply;
-use crate::walks::walk;
+use crate::walks::{walk, walk_counting};
 use cayley::{Cell, LiftFile, TieProof};
 use listing_text::write_listing;
 use plain_lister::{PlainFault, is_tie_free};
-use searcher::{Found, HaltCause};
+use searcher::{Counted, Found, HaltCause};
 use start_system::with_corners;
 use std::alloc::Global;
 use wide_int::OutOfMemory;
@@ -77,14 +77,14 @@ pub fn list_of(
 pub fn sum_of(
     alloc: Global,
     file: &LiftFile,
-    walked: Result<Found, HaltCause>,
+    walked: Result<Counted, HaltCause>,
 ) -> Result<Reply, OutOfMemory>
-    requires { MatchResult walked (HasWalked file.now) (HasHalted file.now) }
+    requires { MatchResult walked (HasCounted file.now) (HasHalted file.now) }
     ensures { IfOk result (λ r. IsWalkReply IsReachedSum file.now r.outcome r.text.items) }
 {
     match walked {
-        Ok(found) => {
-            let text = sum_lines(alloc, found.cells.len(), found.solves)?;
+        Ok(counted) => {
+            let text = sum_lines(alloc, counted.cells, counted.solves)?;
             Ok(Reply {
                 outcome: Outcome::Ok,
                 text,
@@ -105,7 +105,7 @@ pub fn list(alloc: Global, file: &LiftFile) -> Result<Reply, OutOfMemory>
 pub fn sum(alloc: Global, file: &LiftFile) -> Result<Reply, OutOfMemory>
     ensures { IfOk result (λ r. IsWalkReply IsReachedSum file.now r.outcome r.text.items) }
 {
-    sum_of(alloc, file, walk(alloc, file))
+    sum_of(alloc, file, walk_counting(alloc, file))
 }
 
 /// What `generic` replies on a file.

@@ -80,7 +80,7 @@ pub fn tie_free_line(alloc: Global) -> Result<Vec<u8>, OutOfMemory>
 }
 
 /// The lines of a number of mixed cells and of the size of a path tree.
-pub fn sum_lines(alloc: Global, cells: usize, tree: u64) -> Result<Vec<u8>, OutOfMemory>
+pub fn sum_lines(alloc: Global, cells: u64, tree: u64) -> Result<Vec<u8>, OutOfMemory>
     ensures { IfOk result (λ text. text.items ≡ sum_lines cells tree) }
 {
     match format!(in alloc; "cells {cells}\ntree {tree}\n") {

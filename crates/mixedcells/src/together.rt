@@ -2,14 +2,14 @@
 ghost use Rattle.std.specs.Prelude.{◌≡◌, ◌⊎◌, ◌≤◌, IfOk, MatchResult, IsTrue};
 ghost use Rattle.mixedcells.specs.Answers.{IsFileReply};
 ghost use Rattle.mixedcells.specs.Walks.{IsReachedListing, IsReachedSum, IsWalkReply};
-ghost use Rattle.mixedcells.specs.Journeys.{HasWalked, HasHalted};
+ghost use Rattle.mixedcells.specs.Journeys.{HasWalked, HasCounted, HasHalted};
 
 use crate::along::{list_of, sum_of};
 use crate::replies::{Reply, refusal};
 use cayley::LiftFile;
 use edge_io::Gate;
 use search_team::search_together;
-use searcher::{Found, HaltCause};
+use searcher::{Counted, Found, HaltCause};
 use start_system::with_corners;
 use std::alloc::Global;
 use std::sync::Wait;
@@ -33,6 +33,26 @@ fn walk_by<G: Gate, R: Threads + Wait + Sync>(
         return Err(HaltCause::OutOfMemory);
     };
     search_together(rt, alloc, &problem, searchers, gate)
+}
+
+// Counts what a team finds on such a walk, once it has found it all.
+fn count_by<G: Gate, R: Threads + Wait + Sync>(
+    rt: &R,
+    alloc: Global,
+    file: &LiftFile,
+    searchers: u32,
+    gate: &G,
+) -> Result<Counted, HaltCause>
+    requires { (1 ≤ searchers) × (searchers ≤ 64) }
+    ensures { MatchResult result (HasCounted file.now) (HasHalted file.now) }
+{
+    match walk_by(rt, alloc, file, searchers, gate) {
+        Ok(found) => Ok(Counted {
+            cells: found.cells.len() as u64,
+            solves: found.solves,
+        }),
+        Err(cause) => Err(cause),
+    }
 }
 
 /// What `list` replies by several searchers on the bytes of its whole input.
@@ -65,7 +85,7 @@ pub fn sum_by<G: Gate, R: Threads + Wait + Sync>(
     ensures { IfOk result (λ r. IsFileReply (IsWalkReply IsReachedSum) bytes.now r.outcome r.text.items) }
 {
     match read_problem(alloc, bytes) {
-        Ok(file) => sum_of(alloc, &file, walk_by(rt, alloc, &file, searchers, gate)),
+        Ok(file) => sum_of(alloc, &file, count_by(rt, alloc, &file, searchers, gate)),
         Err(TextFault::Format(fault)) => refusal(alloc, fault),
         Err(TextFault::OutOfMemory) => Err(OutOfMemory),
     }

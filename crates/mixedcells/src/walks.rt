@@ -1,4 +1,4 @@
-// The walk of one searcher along the path of a file.
+// The walk of one searcher along the path of a file, which keeps what it finds or counts it.
 ghost use Rattle.std.specs.Prelude.{◌≡◌, ◌<◌, ◌∷◌, [], IfOk, IfErr, MatchResult};
 ghost use Rattle.int_vectors.specs.Vectors.{Each};
 ghost use Rattle.cayley.specs.Problems.{IsStill};
@@ -8,12 +8,13 @@ ghost use Rattle.start_system.specs.Started.{IsStarted, IsSearched};
 ghost use Rattle.searcher.specs.Expansions.{ShowsTieAtEnd, HasNoTie};
 ghost use Rattle.searcher.specs.Workings.{FitsWorking};
 ghost use Rattle.searcher.specs.Searches.{IsFound, IsStopped, FindsShare, FindsSize};
+ghost use Rattle.searcher.specs.Counts.{IsCounted, IsBehind, CountsShare, CountsSize};
 ghost use Rattle.search_team.specs.PathSearches.{IsWalked, IsHalted};
-ghost use Rattle.mixedcells.specs.Journeys.{HasWalked, HasHalted};
+ghost use Rattle.mixedcells.specs.Journeys.{HasWalked, HasCounted, HasHalted, IsPathCount};
 
 use cayley::{Begin, LiftFile, Problem};
 use cone_walls::Steps;
-use searcher::{Branch, Found, HaltCause, Stopped, search_alone};
+use searcher::{Branch, Counted, Found, HaltCause, Stopped, count_alone, search_alone};
 use start_system::{start_cell, with_corners};
 use std::alloc::Global;
 use std::marker::Brand;
@@ -80,4 +81,49 @@ pub fn walk(alloc: Global, file: &LiftFile) -> Result<Found, HaltCause>
         return Err(HaltCause::OutOfMemory);
     };
     search_path(alloc, &problem)
+}
+
+// Counts from these branches, by a counter of its own.
+fn count_by<L: Ledger>(
+    alloc: Global,
+    problem: &Problem,
+    branches: Vec<Branch>,
+    blank: Blank,
+) -> Result<Counted, HaltCause>
+    requires ledger { (blank.name ≡ L.name) × (blank.parts ≡ L.parts) × (0 < blank.parts) }
+    requires still { IsStill problem.now }
+    ensures answer { MatchResult result (IsCounted problem.now branches.items) (IsBehind problem.now branches.items) }
+    ensures share { IfOk result (CountsShare problem.now branches.items) }
+    ensures size { IfOk result (CountsSize problem.now branches.items) }
+    ensures tie { IfErr result (ShowsTieAtEnd problem.now) }
+    ensures untied { IsTieFree problem.now → IfErr result HasNoTie }
+{
+    let mut steps = Steps::<L>::new(blank);
+    count_alone(alloc, problem, branches, &mut steps)
+}
+
+// Counts from the start branch of a path.
+fn count_path(alloc: Global, problem: &Problem) -> Result<Counted, HaltCause>
+    requires started { IsStarted problem.now }
+    requires still { IsStill problem.now }
+    requires searched { IsSearched problem.now }
+    ensures { MatchResult result (IsPathCount problem.now) (IsHalted problem.now) }
+{
+    let _dim = problem.dim();
+    let Ok(branches) = start_branches(alloc, problem) else {
+        return Err(HaltCause::OutOfMemory);
+    };
+    count_by::<Brand>(alloc, problem, branches, Blank::new(1))
+}
+
+/// Walks along the path of a file from its start cell as [`walk`] does, and keeps no cell that it
+/// finds: how many there are, and how many cells of the path tree.
+pub fn walk_counting(alloc: Global, file: &LiftFile) -> Result<Counted, HaltCause>
+    ensures { MatchResult result (HasCounted file.now) (HasHalted file.now) }
+{
+    let _dim = file.dim();
+    let Ok(problem) = with_corners(alloc, file) else {
+        return Err(HaltCause::OutOfMemory);
+    };
+    count_path(alloc, &problem)
 }

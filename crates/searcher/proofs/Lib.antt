@@ -15,3 +15,4 @@ pub mod Sizes
 pub mod Orders
 pub mod Turns
 pub mod Results
+pub mod CountedShares

@@ -95,15 +95,19 @@ finds_share p well given found is b only =
     let moved = subst (λ l. IsPermutation l (cells_of found.cells.items)) one (is.cells share all.1) in
     subst (IsShare p (branch_of b)) (sorted_same (share (branch_of b)) (cells_of found.cells.items) (sorted_from (share (branch_of b)) (all.1 (branch_of b)).0) (as_counted (cells_of found.cells.items) is.order) moved) (all.1 (branch_of b))
 
-pub finds_size : (p : Problem) → IsProblem p → (given : List Branch) (found : Found) → IsFound p given found → FindsSize p given found
-finds_size p well given found is b n only size some =
+-- one given branch costs its size, where that isn't 0
+pub cost_of_one : (p : Problem) → IsProblem p → (given : List Branch) (cost : ℕ) → CostOf p given cost → (b : Branch) (n : ℕ) → given ≡ b ∷ [] → IsSize p (branch_of b) n → 1 ≤ n → cost ≡ n
+cost_of_one p well given cost is b n only size some =
     let sizes = sizes_exist p well in
     let costs = costs_exist p well sizes.0 sizes.1 in
     let same : sizes.0 (branch_of b) ≡ n = one_size p (branch_of b) (sizes.0 (branch_of b)) n (sizes.1 (branch_of b)) size in
-    let cost : costs.0 (branch_of b) ≡ n = (costs.1 (branch_of b)).0 (subst (λ m. 1 ≤ m) (sym same) some) ∙ same in
-    let whole : is.solves.0 ≡ sum_by costs.0 (branch_of b ∷ []) = is.solves.1 sizes.0 costs.0 sizes.1 costs.1 ∙ ap (λ l. sum_by costs.0 (branches_of l)) only in
+    let one : costs.0 (branch_of b) ≡ n = (costs.1 (branch_of b)).0 (subst (λ m. 1 ≤ m) (sym same) some) ∙ same in
+    let whole : cost ≡ sum_by costs.0 (branch_of b ∷ []) = is sizes.0 costs.0 sizes.1 costs.1 ∙ ap (λ l. sum_by costs.0 (branches_of l)) only in
     let last = sum_by-cons costs.0 (branch_of b) [] in
-    is.solves.2 ∙ ap (λ m. min m top) (omega (arith, cost, whole, last))
+    omega (arith, one, whole, last)
+
+pub finds_size : (p : Problem) → IsProblem p → (given : List Branch) (found : Found) → IsFound p given found → FindsSize p given found
+finds_size p well given found is b n only size some = is.solves.2 ∙ ap (λ m. min m top) (cost_of_one p well given is.solves.0 is.solves.1 b n only size some)
 
 -- ---- the cause of a halt
 named_cell : (p : Problem) (cell : Cell) (proof : TieProof) → NamesEnd p cell proof → proof.cell ≡ cell

@@ -6,3 +6,4 @@ pub mod Kept
 pub mod Expansions
 pub mod CellWalls
 pub mod Searches
+pub mod Counts

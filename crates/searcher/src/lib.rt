@@ -6,6 +6,7 @@ mod begins;
 mod branches;
 mod children;
 mod circuits;
+mod counting;
 mod expansions;
 mod searching;
 mod settling;
@@ -14,6 +15,7 @@ mod ties;
 
 pub use branches::Branch;
 pub use cayley::{Begin, FoundCell};
+pub use counting::{Counted, count_alone};
 pub use expansions::{Children, Expansion, Halt, HaltCause, expand};
 pub use searching::{Found, Stopped, search_alone};
 

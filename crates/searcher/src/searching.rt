@@ -44,8 +44,8 @@ fn has_room(left: &mut Vec<Branch>, cells: &mut Vec<FoundCell>) -> bool
     left.reserve(2).is_ok() && cells.reserve(1).is_ok()
 }
 
-// Puts the children at the end, the last of them last.
-fn put_children(left: &mut Vec<Branch>, children: Children)
+/// Puts the children at the end, the last of them last.
+pub fn put_children(left: &mut Vec<Branch>, children: Children)
     requires { vec_len left.old + 2 ≤ vec_capacity left.old }
     ensures { left.new.items ≡ left.old.items ++ children_of children }
 {
@@ -78,8 +78,8 @@ fn put(left: &mut Vec<Branch>, cells: &mut Vec<FoundCell>, expansion: Expansion)
     }
 }
 
-// The count after an expansion of the branch.
-fn count_after(problem: &Problem, branch: &Branch, solves: u64) -> u64
+/// The count after an expansion of the branch.
+pub fn count_after(problem: &Problem, branch: &Branch, solves: u64) -> u64
     ensures { Solved problem.now top (branch_of branch.now) solves result }
 {
     if problem.contains(branch.cell()) {

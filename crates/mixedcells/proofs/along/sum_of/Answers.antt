@@ -1,4 +1,3 @@
-use Rattle.std.proofs.Common.{◌≡◌, length, rules}
 use Rattle.mixedcells.specs.Walks.{IsReachedSum, IsWalkReply}
 use Rattle.mixedcells.specs.Journeys.{TellsCause}
 use Rattle.mixedcells.proofs.Readings.{if_ok_weaker}
@@ -6,9 +5,7 @@ use Rattle.mixedcells.proofs.AlongPaths.{tells_walk, sum_written}
 use Rattle.mixedcells.proofs.along.sum_of.Goals as goal
 
 pub returns-in_ok-text-in-Ok : goal.returns-in_ok-text-in-Ok
-returns-in_ok-text-in-Ok c =
-    let count : c.len.result ≡ length c.in-Ok.found.cells.items = search rules in
-    sum_written c.args.file.now c.in-Ok.found c.len.result _ (rw c.in-Ok.is at c.requires) count c.in_ok-text-in-Ok.ensures
+returns-in_ok-text-in-Ok c = sum_written c.args.file.now c.in-Ok.counted _ (rw c.in-Ok.is at c.requires) c.in_ok-text-in-Ok.ensures
 
 pub returns-in-Err : goal.returns-in-Err
 returns-in-Err c =
