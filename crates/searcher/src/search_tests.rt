@@ -1,7 +1,9 @@
 ghost use Rattle.std.specs.Prelude.{◌≡◌, ◌<◌};
 ghost use Rattle.cayley.specs.Problems.{IsStill};
 
-use crate::{Begin, Branch, Found, FoundCell, HaltCause, Stopped, search_alone};
+use crate::{
+    Begin, Branch, Counted, Found, FoundCell, HaltCause, Stopped, count_alone, search_alone,
+};
 use cayley::{Cell, Point, Problem, Support};
 use cone_walls::Steps;
 use int_vectors::IntVec;
@@ -165,6 +167,32 @@ fn searched<L: Ledger>(
     search_alone(alloc, problem, branches, &mut steps)
 }
 
+// Counted, by a counter of its own.
+fn counted<L: Ledger>(
+    alloc: Global,
+    problem: &Problem,
+    branches: Vec<Branch>,
+    blank: Blank,
+) -> Result<Counted, HaltCause>
+    requires ledger { (blank.name ≡ L.name) × (blank.parts ≡ L.parts) × (0 < blank.parts) }
+    requires still { IsStill problem.now }
+{
+    let mut steps = Steps::<L>::new(blank);
+    count_alone(alloc, problem, branches, &mut steps)
+}
+
+// What a count over a still problem answers.
+fn count(
+    alloc: Global,
+    problem: &Problem,
+    branches: Vec<Branch>,
+) -> Result<Result<Counted, HaltCause>, Fail> {
+    if !problem.is_still() {
+        return Err(OutOfMemory.into());
+    }
+    Ok(counted::<Brand>(alloc, problem, branches, Blank::new(1)))
+}
+
 // What a search of a still problem answers.
 fn search(
     alloc: Global,
@@ -304,5 +332,25 @@ fn two_points_of_equal_height(rt: HostRuntime) -> Result<(), Fail> {
     }
     assert!(rt; stopped.found.cells.is_empty());
     assert_eq!(rt; stopped.found.solves, 1);
+    Ok(())
+}
+
+#[test]
+fn counts_without_the_cells(rt: HostRuntime) -> Result<(), Fail> {
+    let problem = plane(rt.alloc(), &FIRST_SQUARE, &SECOND_SQUARE, 4)?;
+    let start = branch(rt.alloc(), &[(5, 6), (5, 7)], Begin::Start)?;
+    let mut branches = just(rt.alloc(), start)?;
+    branches.push(branch(rt.alloc(), &[(1, 2), (1, 4)], at(5)?)?)?;
+    let Ok(counted) = count(rt.alloc(), &problem, branches)? else {
+        return Err(OutOfMemory.into());
+    };
+    assert_eq!(rt; counted.cells, 2);
+    assert_eq!(rt; counted.solves, 14);
+    let level = Problem::new(rt.alloc(), 1, line(rt.alloc(), &TWO_LEVEL_POINTS, 2)?)?;
+    let start = branch(rt.alloc(), &[(3, 4)], Begin::Start)?;
+    let Err(cause) = count(rt.alloc(), &level, just(rt.alloc(), start)?)? else {
+        return Err(OutOfMemory.into());
+    };
+    assert!(rt; matches!(cause, HaltCause::Tie(_)));
     Ok(())
 }
