@@ -8,9 +8,15 @@ mod ShownEnds
 mod FileCells
 mod TiedEnds
 mod FitWorkings
-mod FileTargets
+pub mod FileTargets
 mod EndCauses
 mod SettledBranches
+pub mod OnTheWay
+mod PassedEnds
+mod PassTurns
+mod PassLists
+mod BesideOne
+mod CellOrders
 pub mod Sizes
 pub mod Orders
 pub mod Turns

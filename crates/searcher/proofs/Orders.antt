@@ -22,7 +22,7 @@ is_before x y = is_lt (slice_cmp pair_cmp x.cell y.cell)
 pub before_ranks : IsStrictWeakOrder is_before
 before_ranks = ranks_by (lists_total (then_total (on_total (λ (x : ℕ × ℕ). x.0) nat_cmp_total) (on_total (λ (x : ℕ × ℕ). x.1) nat_cmp_total))) (λ (x : FoundCell). x.cell)
 
-same_lt : (o q : Ordering) → (o ≡ Less → q ≡ Less) → (q ≡ Less → o ≡ Less) → is_lt o ≡ is_lt q
+pub same_lt : (o q : Ordering) → (o ≡ Less → q ≡ Less) → (q ≡ Less → o ≡ Less) → is_lt o ≡ is_lt q
 same_lt Less q f g = sym (ap is_lt (f refl))
 same_lt Equal Less f g = ap is_lt (g refl)
 same_lt Equal Equal f g = refl

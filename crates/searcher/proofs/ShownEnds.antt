@@ -27,7 +27,7 @@ use Rattle.searcher.specs.Expansions.{IsExpansion, IsHalt, IsCause, ShowsTieAtEn
 
 module _ (p : Problem) (well : IsProblem p) (cell : Cell) (proof : TieProof) where
   -- two level points at a time at which no point is below
-  shown : (t : Time) (v : Normal) → IsOf p cell → IsIndependent p cell → IsNormal p cell t v → NoneBelow p cell t v → NamesLevel p cell t proof
+  pub shown : (t : Time) (v : Normal) → IsOf p cell → IsIndependent p cell → IsNormal p cell t v → NoneBelow p cell t v → NamesLevel p cell t proof
       → ShowsTie p proof.cell t (spot_of proof.first) (option_map spot_of proof.second)
   shown t v of ind n none h =
       let two = h.2.2 in

@@ -20,7 +20,7 @@ dec_supports n (s ∷ supports) = elim (dec_support n s) [
   | yes e ↦ elim (dec_supports n supports) [ no m ↦ no (λ e. m e.1) | yes f ↦ yes (e, f) ]
 ]
 
-dec_problem : (p : Problem) → Dec (IsProblem p)
+pub dec_problem : (p : Problem) → Dec (IsProblem p)
 dec_problem p = elim (ℕ_discrete (length p.supports) p.dimension) [
   | no m ↦ no (λ well. m well.supports)
   | yes e ↦ elim (dec_supports p.dimension p.supports) [ no m ↦ no (λ well. m well.points) | yes f ↦ yes (record { supports = e; points = f }) ]

@@ -66,7 +66,7 @@ abbrev pub Until : Exit → Time → Type 0
 Until x t = IsBeforeExit x t.entries t.over
 
 module _ (lines : List WallLine) where
-  after_later : (e : Entry) → IsEntry lines e → (t u : Time) → After e t → IsBefore t u → After e u
+  pub after_later : (e : Entry) → IsEntry lines e → (t u : Time) → After e t → IsBefore t u → After e u
   after_later entry.Always i t u a b = tt
   after_later entry.Dead i t u a b = a
   after_later (entry.At w which) i t u a b = before_trans (time_of w i.1.0.2) t u a (inl b)

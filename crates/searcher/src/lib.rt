@@ -8,6 +8,7 @@ mod children;
 mod circuits;
 mod counting;
 mod expansions;
+mod passing;
 mod searching;
 mod settling;
 mod targets;
@@ -17,6 +18,7 @@ pub use branches::Branch;
 pub use cayley::{Begin, FoundCell};
 pub use counting::{Counted, count_alone};
 pub use expansions::{Children, Expansion, Halt, HaltCause, expand};
+pub use passing::pass_until;
 pub use searching::{Found, Stopped, search_alone};
 
 #[cfg(test)]
