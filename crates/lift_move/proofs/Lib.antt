@@ -1,0 +1,5 @@
+pub mod Ends
+pub mod Complete
+pub mod Lifted
+pub mod Found
+pub mod SegmentLaws
