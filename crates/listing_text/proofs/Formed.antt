@@ -22,7 +22,7 @@ use Rattle.support_text.proofs.Series.{bind_ok, ok_is}
 use Rattle.support_text.proofs.Kept.{KeepsEach, series_all, each_of, next_line_ok, number_within}
 use Rattle.support_text.proofs.ValidFiles.{dim_within, supports_within, ending_within, file_within}
 use Rattle.listing_text.specs.declared.listing.ListedCell.{ListedCell}
-use Rattle.listing_text.specs.ListingText.{Listed, cells_line, pair, pair_at, normal_entry, cell_line, cell_at, cells_at, counts_of, listing_of}
+use Rattle.listing_text.specs.ListingText.{Listed, cells_line, pair, pair_at, normal_entry, cell_line, cell_at, cells_at, cells_through, counts_of, listing_of, listing_at}
 use Rattle.listing_text.specs.Forms.{IsCellOf, IsEntry, IsFormed, found_of, IsOfFile}
 use Rattle.listing_text.proofs.ListingBack.{at_seam}
 
@@ -131,7 +131,30 @@ cells_formed counts end rows xs e =
     subst (λ (ys : List ListedCell). Each ys (λ y. IsFormed counts (found_of y))) (ok_is b.0.0 xs d.2)
     (each_of (λ y. IsFormed counts (found_of y)) (λ before y. IsFormed counts (found_of y)) (λ before y h. h) [] b.0.0 r.1)
 
+through_formed : (counts : List ℕ) (end : ℕ) (rows : List Row) (xs : List ListedCell × List Row) → cells_through counts end rows ≡ Ok xs → Each xs.0 (λ y. IsFormed counts (found_of y))
+unfolding cells_through
+through_formed counts end rows xs e =
+    let a = bind_ok (next_line cells_line end rows) (λ count. series count.0 (cell_at counts end) [] count.1 >>= λ cells. next_line end_line end cells.1 >>= λ last. Ok (cells.0, last.1)) xs e in
+    let b = bind_ok (series a.0.0 (cell_at counts end) [] a.0.1) (λ cells. next_line end_line end cells.1 >>= λ last. Ok (cells.0, last.1)) xs a.2 in
+    let c = bind_ok (next_line end_line end b.0.1) (λ last. Ok (b.0.0, last.1)) xs b.2 in
+    let r = series_all (λ before y. IsFormed counts (found_of y)) (cell_at counts end)
+    (λ before s y h. let p = next_line_ok (cell_line counts) end s y h in cell_line_formed counts p.0 p.1 y.0 p.2) a.0.0 a.0.1 b.0 b.1 in
+    subst (λ (ys : List ListedCell × List Row). Each ys.0 (λ y. IsFormed counts (found_of y))) (ok_is (b.0.0, c.0.1) xs c.2)
+    (each_of (λ y. IsFormed counts (found_of y)) (λ before y. IsFormed counts (found_of y)) (λ before y h. h) [] b.0.0 r.1)
+
 -- ---- the listing
+
+-- the file of a listing whose lines go on is valid, and its cells are in form
+pub lines_formed : (end : ℕ) (rows rest : List Row) (listed : Listed) → listing_at end rows ≡ Ok (listed, rest)
+    → IsValidFile listed.0 × Each listed.1 (λ x. IsFormed (counts_of listed.0) (found_of x))
+unfolding listing_at
+lines_formed end rows rest listed e =
+    let whole : Listed × List Row = (listed, rest) in
+    let a = bind_ok (problem_at end rows) (λ (x : File × List Row). cells_through (counts_of x.0) end x.1 >>= λ found. Ok ((x.0, found.0), found.1)) whole e in
+    let b = bind_ok (cells_through (counts_of a.0.0) end a.0.1) (λ found. Ok ((a.0.0, found.0), found.1)) whole a.2 in
+    let made : Listed × List Row = ((a.0.0, b.0.0), b.0.1) in
+    subst (λ (y : Listed × List Row). IsValidFile y.0.0 × Each y.0.1 (λ x. IsFormed (counts_of y.0.0) (found_of x))) (ok_is made whole b.2)
+    (problem_valid end rows a.0 a.1, through_formed (counts_of a.0.0) end a.0.1 b.0 b.1)
 
 -- the file of a listing is valid, and its cells are in form
 pub listing_formed : (bytes : List ℕ) (file : File) (cells : List ListedCell) → listing_of bytes ≡ Ok (file, cells) → IsValidFile file × Each cells (λ x. IsFormed (counts_of file) (found_of x))
@@ -173,3 +196,8 @@ pub listing_of_file : (bytes : List ℕ) (file : File) (cells : List ListedCell)
 listing_of_file bytes file cells e =
     let f = listing_formed bytes file cells e in
     each_weaker (λ x. IsFormed (counts_of file) (found_of x)) (IsOfFile file) cells (λ x h. formed_of file f.0 x h) f.1
+
+pub lines_of_file : (end : ℕ) (rows rest : List Row) (listed : Listed) → listing_at end rows ≡ Ok (listed, rest) → Each listed.1 (IsOfFile listed.0)
+lines_of_file end rows rest listed e =
+    let f = lines_formed end rows rest listed e in
+    each_weaker (λ x. IsFormed (counts_of listed.0) (found_of x)) (IsOfFile listed.0) listed.1 (λ x h. formed_of listed.0 f.0 x h) f.1

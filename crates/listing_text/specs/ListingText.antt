@@ -56,6 +56,14 @@ cells_at counts end rows = do
   ended ← no_line last.1
   Ok cells.0
 
+-- `cells K`, K cell lines and `end`, and the lines behind that
+unfoldable pub cells_through : List ℕ → ℕ → List Row → Reading (List ListedCell × List Row)
+cells_through counts end rows = do
+  count ← next_line cells_line end rows
+  cells ← series count.0 (cell_at counts end) [] count.1
+  last ← next_line end_line end cells.1
+  Ok (cells.0, last.1)
+
 -- how many points each support has
 abbrev pub counts_of : File → List ℕ
 counts_of file = map length file.supports
@@ -70,3 +78,10 @@ listing_of bytes = do
   file ← problem_at (end_line_of bytes) (lines_of bytes)
   cells ← cells_at (counts_of file.0) (end_line_of bytes) file.1
   Ok (file.0, cells)
+
+-- the listing that the first lines mean, through its `end`, and the lines behind that
+unfoldable pub listing_at : ℕ → List Row → Reading (Listed × List Row)
+listing_at end rows = do
+  file ← problem_at end rows
+  cells ← cells_through (counts_of file.0) end file.1
+  Ok ((file.0, cells.0), cells.1)

@@ -174,6 +174,26 @@ fn cell_lines(
     Ok(cells)
 }
 
+/// The lines behind the file through their `end`: `cells K`, the cell lines and `end`. What follows is
+/// left in `lines`. The supports have so many file points.
+#[tactic(auto, unfolding(crate::specs::ListingText::cells_through))]
+pub fn cells_through(
+    alloc: Global,
+    counts: &[usize],
+    lines: &mut Lines,
+) -> Result<Vec<ListedCell>, TextFault>
+    requires least { 1 ≤ length counts.now }
+    requires greatest { length counts.now ≤ 16 }
+    requires counts { All (λ m. (1 ≤ m) × (m ≤ 1000)) counts.now }
+    ensures reading { Gives (λ cells. (cells.items, lines.new.rows)) result (listing.cells_through counts.now lines.old.end_line lines.old.rows) }
+    ensures end_line { lines.new.end_line ≡ lines.old.end_line }
+{
+    let count = cell_count(lines)?;
+    let cells = cell_lines(alloc, counts, count, lines)?;
+    end(lines)?;
+    Ok(cells)
+}
+
 /// The lines behind the file: `cells K`, the cell lines and `end`, and no line behind that. The
 /// supports have so many file points.
 #[tactic(auto, unfolding(crate::specs::ListingText::cells_at))]
