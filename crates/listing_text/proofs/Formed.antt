@@ -6,14 +6,14 @@ use Rattle.std.proofs.lemmas.Int.{ints}
 use Rattle.std.proofs.lemmas.List.{length-map}
 use Rattle.int_vectors.specs.Vectors.{Each}
 use Rattle.cayley.specs.Problems.{Version, unperturbed, HasSamePoints}
-use Rattle.cayley.specs.Cells.{Cell, IsOf, EachPair}
+use Rattle.cayley.specs.Cells.{Cell, EachPair}
 use Rattle.cayley.specs.Files.{File, FilePoint, resting, plain_problem}
 use Rattle.cayley.specs.Valid.{IsValidFile}
 use Rattle.cayley.proofs.OneCell.PlainProblems.{plain_of, plain_unperturbed}
 use Rattle.cayley.proofs.OneCell.Unperturbed.{same_unperturbed, same_of}
 use Rattle.cayley.proofs.Lists.Each.{each_weaker}
 use Rattle.line_text.specs.Lines.{Row, lines_of, end_line_of}
-use Rattle.support_text.specs.declared.fault.Kind.TheVariants.{Header, Count, Number, Range}
+use Rattle.support_text.specs.declared.fault.Kind.TheVariants.{Count, Number, Range}
 use Rattle.support_text.specs.declared.fault.FormatFault.{FormatFault}
 use Rattle.support_text.specs.Faults.{Reading, ◌>>=◌, fault, series}
 use Rattle.support_text.specs.Words.{Text, word, number, nothing_more, next_line}
@@ -22,7 +22,7 @@ use Rattle.support_text.proofs.Series.{bind_ok, ok_is}
 use Rattle.support_text.proofs.Kept.{KeepsEach, series_all, each_of, next_line_ok, number_within}
 use Rattle.support_text.proofs.ValidFiles.{dim_within, supports_within, ending_within, file_within}
 use Rattle.listing_text.specs.declared.listing.ListedCell.{ListedCell}
-use Rattle.listing_text.specs.ListingText.{Listed, cells_line, pair, pair_at, normal_entry, cell_line, cell_at, cells_at, cells_through, counts_of, listing_of, listing_at}
+use Rattle.listing_text.specs.ListingText.{Listed, cells_line, pair, pair_at, normal_entry, cell_line, cell_at, Part, next_number, part_at, cells_at, cells_through, counts_of, listing_of, listing_at}
 use Rattle.listing_text.specs.Forms.{IsCellOf, IsEntry, IsFormed, found_of, IsOfFile}
 use Rattle.listing_text.proofs.ListingBack.{at_seam}
 
@@ -31,7 +31,7 @@ use Rattle.listing_text.proofs.ListingBack.{at_seam}
 abbrev file_of : Version → ℕ → List (List FilePoint) → Option (List (List ℤ)) → File
 file_of version n points starts = record { version = version; dimension = n; supports = points; starts = starts }
 
-problem_valid : (end : ℕ) (rows : List Row) (x : File × List Row) → problem_at end rows ≡ Ok x → IsValidFile x.0
+pub problem_valid : (end : ℕ) (rows : List Row) (x : File × List Row) → problem_at end rows ≡ Ok x → IsValidFile x.0
 unfolding problem_at
 problem_valid end rows x e =
     let a = bind_ok (next_line header_line end rows) (λ version. next_line dim_line end version.1 >>= λ n. supports n.0 end n.1 >>= λ points. ending n.0 end points.1 >>= λ starts. Ok (file_of version.0 n.0 points.0 starts.0, starts.1)) x e in
@@ -57,10 +57,10 @@ guarded : {A : Type 0} (b : Bool) (f : FormatFault) (x y : A) → cond b (Ok x) 
 guarded true f x y e = (refl, cc)
 guarded false f x y e = absurd cc
 
-abbrev IsPairTo : ℕ → ℕ × ℕ → Type 0
+abbrev pub IsPairTo : ℕ → ℕ × ℕ → Type 0
 IsPairTo m x = (1 ≤ x.0) × (x.0 < x.1) × (x.1 ≤ m)
 
-pair_within : (m line : ℕ) (ws : List Text) (x : (ℕ × ℕ) × List Text) → pair m line ws ≡ Ok x → IsPairTo m x.0
+pub pair_within : (m line : ℕ) (ws : List Text) (x : (ℕ × ℕ) × List Text) → pair m line ws ≡ Ok x → IsPairTo m x.0
 unfolding pair
 pair_within m line ws x e =
     let last : ℕ → ℕ → List Text → Reading ((ℕ × ℕ) × List Text) = λ i k rest. cond (nat_lt i k) (Ok ((i, k), rest)) (Err (fault line Range)) in
@@ -74,10 +74,10 @@ pair_within m line ws x e =
     subst (λ (y : (ℕ × ℕ) × List Text). IsPairTo m y.0) g.1 (omega (arith, ints), less, omega (arith, ints))
 
 -- a pair of the next support
-abbrev IsNextPair : List ℕ → Cell → ℕ × ℕ → Type 0
+abbrev pub IsNextPair : List ℕ → Cell → ℕ × ℕ → Type 0
 IsNextPair counts before x = IsPairTo (slice_index_or counts (length before) 0) x
 
-cell_of_pairs : (done ms : List ℕ) (before ps : Cell) → length before ≡ length done → length ps ≡ length ms → KeepsEach (IsNextPair (done ++ ms)) before ps → IsCellOf ms ps
+pub cell_of_pairs : (done ms : List ℕ) (before ps : Cell) → length before ≡ length done → length ps ≡ length ms → KeepsEach (IsNextPair (done ++ ms)) before ps → IsCellOf ms ps
 cell_of_pairs done [] before [] size same h = tt
 cell_of_pairs done [] before (p ∷ ps) size same h = absurd (omega (arith, same))
 cell_of_pairs done (m ∷ ms) before [] size same h = absurd (omega (arith, same))
@@ -119,28 +119,32 @@ cell_line_formed counts line ws x e =
     } in
     subst (λ (y : ListedCell). IsFormed counts (found_of y)) (ok_is (listed line b.0.0 d.0.0 g.0.0) x h.2) formed
 
+pub part_formed : (counts : List ℕ) (end : ℕ) (rows : List Row) (x : Part × List Row) → part_at counts end rows ≡ Ok x → Each x.0.cells (λ y. IsFormed counts (found_of y))
+unfolding part_at
+part_formed counts end rows x e =
+    let whole : List ListedCell → List Row → Part = λ cells rest. record { cells_line = next_number end rows; cells = cells; end_line = next_number end rest } in
+    let a = bind_ok (next_line cells_line end rows) (λ count. series count.0 (cell_at counts end) [] count.1 >>= λ cells. next_line end_line end cells.1 >>= λ last. Ok (whole cells.0 cells.1, last.1)) x e in
+    let b = bind_ok (series a.0.0 (cell_at counts end) [] a.0.1) (λ cells. next_line end_line end cells.1 >>= λ last. Ok (whole cells.0 cells.1, last.1)) x a.2 in
+    let c = bind_ok (next_line end_line end b.0.1) (λ last. Ok (whole b.0.0 b.0.1, last.1)) x b.2 in
+    let made : Part × List Row = (whole b.0.0 b.0.1, c.0.1) in
+    let r = series_all (λ before y. IsFormed counts (found_of y)) (cell_at counts end)
+    (λ before s y h. let p = next_line_ok (cell_line counts) end s y h in cell_line_formed counts p.0 p.1 y.0 p.2) a.0.0 a.0.1 b.0 b.1 in
+    subst (λ (y : Part × List Row). Each y.0.cells (λ z. IsFormed counts (found_of z))) (ok_is made x c.2)
+    (each_of (λ y. IsFormed counts (found_of y)) (λ before y. IsFormed counts (found_of y)) (λ before y h. h) [] b.0.0 r.1)
+
 cells_formed : (counts : List ℕ) (end : ℕ) (rows : List Row) (xs : List ListedCell) → cells_at counts end rows ≡ Ok xs → Each xs (λ y. IsFormed counts (found_of y))
 unfolding cells_at
 cells_formed counts end rows xs e =
-    let a = bind_ok (next_line cells_line end rows) (λ count. series count.0 (cell_at counts end) [] count.1 >>= λ cells. next_line end_line end cells.1 >>= λ last. no_line last.1 >>= λ ended. Ok cells.0) xs e in
-    let b = bind_ok (series a.0.0 (cell_at counts end) [] a.0.1) (λ cells. next_line end_line end cells.1 >>= λ last. no_line last.1 >>= λ ended. Ok cells.0) xs a.2 in
-    let c = bind_ok (next_line end_line end b.0.1) (λ last. no_line last.1 >>= λ ended. Ok b.0.0) xs b.2 in
-    let d = bind_ok (no_line c.0.1) (λ ended. Ok b.0.0) xs c.2 in
-    let r = series_all (λ before y. IsFormed counts (found_of y)) (cell_at counts end)
-    (λ before s y h. let p = next_line_ok (cell_line counts) end s y h in cell_line_formed counts p.0 p.1 y.0 p.2) a.0.0 a.0.1 b.0 b.1 in
-    subst (λ (ys : List ListedCell). Each ys (λ y. IsFormed counts (found_of y))) (ok_is b.0.0 xs d.2)
-    (each_of (λ y. IsFormed counts (found_of y)) (λ before y. IsFormed counts (found_of y)) (λ before y h. h) [] b.0.0 r.1)
+    let a = bind_ok (part_at counts end rows) (λ part. no_line part.1 >>= λ ended. Ok part.0.cells) xs e in
+    let b = bind_ok (no_line a.0.1) (λ ended. Ok a.0.0.cells) xs a.2 in
+    subst (λ (ys : List ListedCell). Each ys (λ y. IsFormed counts (found_of y))) (ok_is a.0.0.cells xs b.2) (part_formed counts end rows a.0 a.1)
 
 through_formed : (counts : List ℕ) (end : ℕ) (rows : List Row) (xs : List ListedCell × List Row) → cells_through counts end rows ≡ Ok xs → Each xs.0 (λ y. IsFormed counts (found_of y))
 unfolding cells_through
 through_formed counts end rows xs e =
-    let a = bind_ok (next_line cells_line end rows) (λ count. series count.0 (cell_at counts end) [] count.1 >>= λ cells. next_line end_line end cells.1 >>= λ last. Ok (cells.0, last.1)) xs e in
-    let b = bind_ok (series a.0.0 (cell_at counts end) [] a.0.1) (λ cells. next_line end_line end cells.1 >>= λ last. Ok (cells.0, last.1)) xs a.2 in
-    let c = bind_ok (next_line end_line end b.0.1) (λ last. Ok (b.0.0, last.1)) xs b.2 in
-    let r = series_all (λ before y. IsFormed counts (found_of y)) (cell_at counts end)
-    (λ before s y h. let p = next_line_ok (cell_line counts) end s y h in cell_line_formed counts p.0 p.1 y.0 p.2) a.0.0 a.0.1 b.0 b.1 in
-    subst (λ (ys : List ListedCell × List Row). Each ys.0 (λ y. IsFormed counts (found_of y))) (ok_is (b.0.0, c.0.1) xs c.2)
-    (each_of (λ y. IsFormed counts (found_of y)) (λ before y. IsFormed counts (found_of y)) (λ before y h. h) [] b.0.0 r.1)
+    let a = bind_ok (part_at counts end rows) (λ part. Ok (part.0.cells, part.1)) xs e in
+    let made : List ListedCell × List Row = (a.0.0.cells, a.0.1) in
+    subst (λ (ys : List ListedCell × List Row). Each ys.0 (λ y. IsFormed counts (found_of y))) (ok_is made xs a.2) (part_formed counts end rows a.0 a.1)
 
 -- ---- the listing
 
@@ -201,3 +205,7 @@ pub lines_of_file : (end : ℕ) (rows rest : List Row) (listed : Listed) → lis
 lines_of_file end rows rest listed e =
     let f = lines_formed end rows rest listed e in
     each_weaker (λ x. IsFormed (counts_of listed.0) (found_of x)) (IsOfFile listed.0) listed.1 (λ x h. formed_of listed.0 f.0 x h) f.1
+
+pub part_of_file : (file : File) (end : ℕ) (rows rest : List Row) (part : Part) → IsValidFile file → part_at (counts_of file) end rows ≡ Ok (part, rest) → Each part.cells (IsOfFile file)
+part_of_file file end rows rest part valid e =
+    each_weaker (λ x. IsFormed (counts_of file) (found_of x)) (IsOfFile file) part.cells (λ x h. formed_of file valid x h) (part_formed (counts_of file) end rows (part, rest) e)

@@ -21,7 +21,7 @@ use Rattle.support_text.proofs.ReadBack.{AreLines, AreSmall, ReadsWords, lines_a
 use Rattle.support_text.proofs.WrittenWords.{IsWord, IsLine, plain_word, mark_word, number_word, lines_again, each-append, each-map}
 use Rattle.support_text.proofs.FileTexts.{file_lines, valid_is_read, count_word}
 use Rattle.listing_text.specs.declared.listing.ListedCell.{ListedCell}
-use Rattle.listing_text.specs.ListingText.{cells_line, pair, pair_at, cell_line, cell_at, cells_at, counts_of, listing_of}
+use Rattle.listing_text.specs.ListingText.{cells_line, pair, pair_at, cell_line, cell_at, Part, next_number, part_at, cells_at, counts_of, listing_of}
 use Rattle.listing_text.specs.Writing.{position_words, cell_words, cells_lines, listing_lines, listing_text}
 use Rattle.listing_text.specs.Forms.{IsCellOf, IsEntry, IsFormed, found_of, MeansListing}
 use Rattle.listing_text.proofs.Limits.{entry_width}
@@ -64,13 +64,13 @@ pairs_chain : (ps : Cell) (ws : List Text) → Chain TakesPair ps (position_word
 pairs_chain [] ws = refl
 pairs_chain (p ∷ ps) ws = (position_words ps ++ ws, refl, pairs_chain ps ws)
 
-cell_size : (counts : List ℕ) (cell : Cell) → IsCellOf counts cell → length cell ≡ length counts
+pub cell_size : (counts : List ℕ) (cell : Cell) → IsCellOf counts cell → length cell ≡ length counts
 cell_size [] [] h = refl
 cell_size [] (p ∷ cell) h = absurd h
 cell_size (m ∷ counts) [] h = absurd h
 cell_size (m ∷ counts) (p ∷ cell) h = ap suc (cell_size counts cell h.3)
 
-pairs_again : (counts : List ℕ) (line : ℕ) (cell : Cell) (ws : List Text) → IsCellOf counts cell → Each counts (λ m. m < 2 ^ 127)
+pub pairs_again : (counts : List ℕ) (line : ℕ) (cell : Cell) (ws : List Text) → IsCellOf counts cell → Each counts (λ m. m < 2 ^ 127)
     → series (length counts) (pair_at counts line) [] (position_words cell ++ ws) ≡ Ok (cell, ws)
 pairs_again counts line cell ws h small =
     subst (λ (k : ℕ). series k (pair_at counts line) [] (position_words cell ++ ws) ≡ Ok (cell, ws)) (cell_size counts cell h)
@@ -81,10 +81,10 @@ pairs_again counts line cell ws h small =
 abbrev largest : ℤ
 largest = pos (2 ^ 127 - 1)
 
-entries_small : AreSmall (neg_ℤ largest) largest
+pub entries_small : AreSmall (neg_ℤ largest) largest
 entries_small z h = entry_width z h.0 h.1
 
-over_width : (k : ℕ) (z : ℤ) → pos 1 ≤ℤ z → z ≤ℤ pos k → k < 2 ^ 127 → FitsSigned w128 z
+pub over_width : (k : ℕ) (z : ℤ) → pos 1 ≤ℤ z → z ≤ℤ pos k → k < 2 ^ 127 → FitsSigned w128 z
 over_width k (pos n) low high small = record { sfits = omega (arith, ints) }
 over_width k (negsuc n) low high small = record { sfits = omega (arith, ints) }
 
@@ -105,7 +105,7 @@ cell_again counts x small formed line =
 abbrev TakesCell : ListedCell → List Row → List Row → Type 0
 TakesCell y rows rest = (row : Row) × (rows ≡ row ∷ rest) × (words row ≡ cell_words (found_of y)) × (row.number ≡ y.line)
 
-cells_chain : (found : List FoundCell) (rows rest : List Row) → AreLines (map cell_words found) rows rest → (listed : List ListedCell) × Chain TakesCell listed rows rest × (map found_of listed ≡ found)
+pub cells_chain : (found : List FoundCell) (rows rest : List Row) → AreLines (map cell_words found) rows rest → (listed : List ListedCell) × Chain TakesCell listed rows rest × (map found_of listed ≡ found)
 cells_chain [] rows rest h = ([], h, refl)
 cells_chain (x ∷ found) rows rest h =
     let r = cells_chain found h.1 rest h.4 in
@@ -125,7 +125,7 @@ cells_each counts end before (y ∷ ys) small h = (
   cells_each counts end (before ++ y ∷ []) ys small h.1,
 )
 
-unmapped : {A B : Type 0} (P : B → Type 0) (f : A → B) (xs : List A) → Each (map f xs) P → Each xs (λ x. P (f x))
+pub unmapped : {A B : Type 0} (P : B → Type 0) (f : A → B) (xs : List A) → Each (map f xs) P → Each xs (λ x. P (f x))
 unmapped P f [] h = tt
 unmapped P f (x ∷ xs) h = (h.0, unmapped P f xs h.1)
 
@@ -136,22 +136,22 @@ count_again k most line =
     rw count refl
 
 -- the lines behind the file
-abbrev MeansCells : List ℕ → ℕ → List Row → List FoundCell → Type 0
-MeansCells counts end rows found = (listed : List ListedCell) × (cells_at counts end rows ≡ Ok listed) × (map found_of listed ≡ found)
+abbrev pub MeansPart : List ℕ → ℕ → List Row → List Row → List FoundCell → Type 0
+MeansPart counts end rows rest found = (part : Part) × (part_at counts end rows ≡ Ok (part, rest)) × (map found_of part.cells ≡ found)
 
-cells_back : (counts : List ℕ) (end : ℕ) (found : List FoundCell) (rows : List Row) → Each counts (λ m. m < 2 ^ 127) → Each found (IsFormed counts) → length found ≤ 4294967295 → AreLines (cells_lines found) rows []
-    → MeansCells counts end rows found
-unfolding cells_at no_line
-cells_back counts end found rows small formed few lines =
+pub part_back : (counts : List ℕ) (end : ℕ) (found : List FoundCell) (rows rest : List Row) → Each counts (λ m. m < 2 ^ 127) → Each found (IsFormed counts) → length found ≤ 4294967295 → AreLines (cells_lines found) rows rest
+    → MeansPart counts end rows rest found
+unfolding part_at
+part_back counts end found rows rest small formed few lines =
     let head = next_again cells_line (codes "cells" ∷ decimal (length found) ∷ []) (length found) end rows lines.1 (count_again (length found) few) (lines.0, lines.1, lines.2, lines.3, refl) in
-    let parts = lines_split (map cell_words found) ((codes "end" ∷ []) ∷ []) lines.1 [] lines.4 in
+    let parts = lines_split (map cell_words found) ((codes "end" ∷ []) ∷ []) lines.1 rest lines.4 in
     let r = cells_chain found lines.1 parts.0 parts.1 in
     let size : length r.0 ≡ length found = mapped_size r.0 ∙ ap length r.2 in
     let each = unmapped (IsFormed counts) found_of r.0 (subst (λ (l : List FoundCell). Each l (IsFormed counts)) (sym r.2) formed) in
     let body = subst (λ (k : ℕ). series k (cell_at counts end) [] lines.1 ≡ Ok (r.0, parts.0)) size
     (series_again TakesCell (cell_at counts end) [] r.0 lines.1 parts.0 (cells_each counts end [] r.0 small each) r.1) in
-    let last = next_again end_line (codes "end" ∷ []) tt end parts.0 [] end_again parts.2 in
-    (r.0, rw (head, body, last) refl, r.2)
+    let last = next_again end_line (codes "end" ∷ []) tt end parts.0 rest end_again parts.2 in
+    (record { cells_line = next_number end rows; cells = r.0; end_line = next_number end parts.0 }, rw (head, body, last) refl, r.2)
   where
     mapped_size : (ys : List ListedCell) → length ys ≡ length (map found_of ys)
     mapped_size [] = refl
@@ -159,7 +159,7 @@ cells_back counts end found rows small formed few lines =
 
 -- ---- words
 
-positions_are_words : (counts : List ℕ) (cell : Cell) → IsCellOf counts cell → Each counts (λ m. m < 2 ^ 127) → Each (position_words cell) IsWord
+pub positions_are_words : (counts : List ℕ) (cell : Cell) → IsCellOf counts cell → Each counts (λ m. m < 2 ^ 127) → Each (position_words cell) IsWord
 positions_are_words [] [] h small = tt
 positions_are_words [] (p ∷ cell) h small = absurd h
 positions_are_words (m ∷ counts) [] h small = absurd h
@@ -178,7 +178,7 @@ cell_is_line counts x small formed =
     (positions_are_words counts x.cell formed.cell small) (colon, behind) in
     (omega arith, (head, body))
 
-cells_are_lines : (counts : List ℕ) (found : List FoundCell) → Each counts (λ m. m < 2 ^ 127) → Each found (IsFormed counts) → length found ≤ 4294967295 → Each (cells_lines found) IsLine
+pub cells_are_lines : (counts : List ℕ) (found : List FoundCell) → Each counts (λ m. m < 2 ^ 127) → Each found (IsFormed counts) → length found ≤ 4294967295 → Each (cells_lines found) IsLine
 cells_are_lines counts found small formed few =
     let head : IsWord (codes "cells") = plain_word 99 (101 ∷ 108 ∷ 108 ∷ 115 ∷ []) refl refl in
     let last : IsWord (codes "end") = plain_word 101 (110 ∷ 100 ∷ []) refl refl in
@@ -187,7 +187,7 @@ cells_are_lines counts found small formed few =
 
 -- ---- the law
 
-small_counts : (ss : List (List FilePoint)) → Each ss (λ s. (1 ≤ length s) × (length s ≤ 1000)) → Each (map length ss) (λ m. m < 2 ^ 127)
+pub small_counts : (ss : List (List FilePoint)) → Each ss (λ s. (1 ≤ length s) × (length s ≤ 1000)) → Each (map length ss) (λ m. m < 2 ^ 127)
 small_counts [] h = tt
 small_counts (s ∷ ss) h = (below (length s) h.0.1, small_counts ss h.1)
   where
@@ -195,7 +195,7 @@ small_counts (s ∷ ss) h = (below (length s) h.0.1, small_counts ss h.1)
     below k le = omega arith
 
 pub listing_back : (file : File) (found : List FoundCell) → IsValidFile file → Each found (IsFormed (counts_of file)) → length found ≤ 4294967295 → MeansListing (listing_text file found) file found
-unfolding listing_of
+unfolding listing_of cells_at no_line
 listing_back file found valid formed few =
     let bytes = listing_text file found in
     let end = end_line_of bytes in
@@ -207,6 +207,6 @@ listing_back file found valid formed few =
     let lines : AreLines (listing_lines file found) rows [] = subst (λ (wss : List (List Text)). AreLines wss rows []) same (lines_are rows) in
     let parts = lines_split (problem_lines file) (cells_lines found) rows [] lines in
     let read : problem_at end rows ≡ Ok (file, parts.0) = file_again end file rows parts.0 (valid_is_read file valid) parts.1 in
-    let cells = cells_back counts end found parts.0 small formed few parts.2 in
-    let cells-read : cells_at counts end parts.0 ≡ Ok cells.0 = cells.1 in
-    (cells.0, rw (read, cells-read) refl, cells.2)
+    let part = part_back counts end found parts.0 [] small formed few parts.2 in
+    let part-read : part_at counts end parts.0 ≡ Ok (part.0, []) = part.1 in
+    (part.0.cells, rw (read, part-read) refl, part.2)

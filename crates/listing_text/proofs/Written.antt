@@ -62,19 +62,22 @@ cell_written o i j k l m n p x a b c d e f g =
         ∙ ap (λ q. b ++ (codes " / " ++ (q ++ 10 ∷ []))) (append-nil h)))
 
 -- the lines behind the file
-pub listing_written : (o i j k l : List ℕ) (file : File) (xs : List FoundCell) → i ≡ o ++ problem_text file
-    → j ≡ i ++ (codes "cells" ++ (codes " " ++ (signed_decimal (pos (length xs)) ++ codes "\n"))) → k ≡ j ++ flat_map (λ x. text_of (cell_words x ∷ [])) xs → l ≡ k ++ codes "end\n"
-    → l ≡ o ++ listing_text file xs
-listing_written o i j k l file xs a b c d =
+pub cells_written : (o i j k : List ℕ) (xs : List FoundCell) → i ≡ o ++ (codes "cells" ++ (codes " " ++ (signed_decimal (pos (length xs)) ++ codes "\n")))
+    → j ≡ i ++ flat_map (λ x. text_of (cell_words x ∷ [])) xs → k ≡ j ++ codes "end\n"
+    → k ≡ o ++ text_of (cells_lines xs)
+cells_written o i j k xs a b c =
     let n = codes "cells" ++ (codes " " ++ (signed_decimal (pos (length xs)) ++ codes "\n")) in
     let s = flat_map (λ x. text_of (cell_words x ∷ [])) xs in
-    d ∙ ap (λ q. q ++ codes "end\n") (c ∙ ap (λ q. q ++ s) (b ∙ ap (λ q. q ++ n) a))
-    ∙ four o (problem_text file) n s (codes "end\n")
-    ∙ ap (λ q. o ++ q) (sym (text_append (problem_lines file) (cells_lines xs) ∙ ap (λ q. problem_text file ++ q) rest))
+    c ∙ ap (λ q. q ++ codes "end\n") (b ∙ ap (λ q. q ++ s) a)
+    ∙ append_assoc (o ++ n) s (codes "end\n") ∙ append_assoc o n (s ++ codes "end\n")
+    ∙ ap (λ q. o ++ q) (sym rest)
   where
-    four : (o a b c d : List ℕ) → (((o ++ a) ++ b) ++ c) ++ d ≡ o ++ (a ++ (b ++ (c ++ d)))
-    four o a b c d = append_assoc ((o ++ a) ++ b) c d ∙ append_assoc (o ++ a) b (c ++ d) ∙ append_assoc o a (b ++ (c ++ d))
-
     rest : text_of (cells_lines xs) ≡ (codes "cells" ++ (codes " " ++ (signed_decimal (pos (length xs)) ++ codes "\n"))) ++ (flat_map (λ x. text_of (cell_words x ∷ [])) xs ++ codes "end\n")
     rest = ap (λ q. (codes "cells" ++ (codes " " ++ (signed_decimal (pos (length xs)) ++ codes "\n"))) ++ q)
         (text_append (map cell_words xs) ((codes "end" ∷ []) ∷ []) ∙ ap (λ q. q ++ codes "end\n") (sym (text_each cell_words xs)))
+
+-- the file and the lines behind it
+pub listing_written : (o i j : List ℕ) (file : File) (xs : List FoundCell) → i ≡ o ++ problem_text file → j ≡ i ++ text_of (cells_lines xs) → j ≡ o ++ listing_text file xs
+listing_written o i j file xs a b =
+    b ∙ ap (λ q. q ++ text_of (cells_lines xs)) a ∙ append_assoc o (problem_text file) (text_of (cells_lines xs))
+    ∙ ap (λ q. o ++ q) (sym (text_append (problem_lines file) (cells_lines xs)))

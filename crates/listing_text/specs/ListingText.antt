@@ -1,5 +1,5 @@
 -- The listing: what its lines mean, or the first faulty line and the kind of its fault.
-use Rattle.std.specs.Prelude.{◌≡◌, ◌+◌, ◌-◌, ◌^◌, ℕ, Bool, true, false, List, [], ◌∷◌, length, map, ℤ, pos, neg_ℤ, codes, unsigned_abs, nat_lt, slice_index_or, Result, Ok, Err, if◌then◌else◌}
+use Rattle.std.specs.Prelude.{◌-◌, ◌^◌, ℕ, List, [], ◌∷◌, length, map, ℤ, pos, neg_ℤ, codes, unsigned_abs, nat_lt, slice_index_or, Ok, Err, if◌then◌else◌}
 use Rattle.line_text.specs.Lines.{Row, lines_of, end_line_of}
 use Rattle.cayley.specs.Files.{File}
 use Rattle.support_text.specs.declared.fault.Kind.TheVariants.{Count, Number, Range}
@@ -7,6 +7,7 @@ use Rattle.support_text.specs.Faults.{Reading, ◌>>=◌, fault, series}
 use Rattle.support_text.specs.Words.{Text, word, number, nothing_more, next_line}
 use Rattle.support_text.specs.ProblemText.{end_line, problem_at, no_line}
 use Rattle.listing_text.specs.declared.listing.ListedCell.{ListedCell}
+use Rattle.listing_text.specs.declared.listing.CellPart.{CellPart}
 
 -- `cells K`
 unfoldable pub cells_line : ℕ → List Text → Reading ℕ
@@ -47,22 +48,37 @@ cell_line counts line ws = do
 abbrev pub cell_at : List ℕ → ℕ → List ListedCell → List Row → Reading (ListedCell × List Row)
 cell_at counts end before = next_line (cell_line counts) end
 
--- `cells K`, K cell lines and `end`, and no line behind that
-unfoldable pub cells_at : List ℕ → ℕ → List Row → Reading (List ListedCell)
-cells_at counts end rows = do
-  count ← next_line cells_line end rows
-  cells ← series count.0 (cell_at counts end) [] count.1
-  last ← next_line end_line end cells.1
-  ended ← no_line last.1
-  Ok cells.0
+-- the number of the next line, or of the end of input
+abbrev pub next_number : ℕ → List Row → ℕ
+next_number end [] = end
+next_number end (row ∷ rows) = row.number
+
+-- listed cells, with the numbers of the line `cells` before them and of the line `end` behind them
+pub record Part : Type 0 where
+  pub cells_line : ℕ
+  pub cells : List ListedCell
+  pub end_line : ℕ
 
 -- `cells K`, K cell lines and `end`, and the lines behind that
-unfoldable pub cells_through : List ℕ → ℕ → List Row → Reading (List ListedCell × List Row)
-cells_through counts end rows = do
+unfoldable pub part_at : List ℕ → ℕ → List Row → Reading (Part × List Row)
+part_at counts end rows = do
   count ← next_line cells_line end rows
   cells ← series count.0 (cell_at counts end) [] count.1
   last ← next_line end_line end cells.1
-  Ok (cells.0, last.1)
+  Ok (record { cells_line = next_number end rows; cells = cells.0; end_line = next_number end cells.1 }, last.1)
+
+-- the cells of a part, and no line behind it
+unfoldable pub cells_at : List ℕ → ℕ → List Row → Reading (List ListedCell)
+cells_at counts end rows = do
+  part ← part_at counts end rows
+  ended ← no_line part.1
+  Ok part.0.cells
+
+-- the cells of a part, and the lines behind it
+unfoldable pub cells_through : List ℕ → ℕ → List Row → Reading (List ListedCell × List Row)
+cells_through counts end rows = do
+  part ← part_at counts end rows
+  Ok (part.0.cells, part.1)
 
 -- how many points each support has
 abbrev pub counts_of : File → List ℕ
@@ -85,3 +101,7 @@ listing_at end rows = do
   file ← problem_at end rows
   cells ← cells_through (counts_of file.0) end file.1
   Ok ((file.0, cells.0), cells.1)
+
+-- the listed cells that an answer holds, with the numbers of their lines
+abbrev pub part_of : CellPart → Part
+part_of x = record { cells_line = x.cells_line; cells = x.cells.items; end_line = x.end_line }

@@ -6,16 +6,15 @@ ghost use Rattle.support_text.specs.Faults.{Gives, series};
 ghost use Rattle.support_text.specs.Words as spec;
 ghost use Rattle.support_text.specs.Words.{words};
 ghost use Rattle.listing_text.specs.ListingText as listing;
-ghost use Rattle.listing_text.specs.ListingText.{pair_at, normal_entry, cell_at};
+ghost use Rattle.listing_text.specs.ListingText.{pair_at, normal_entry, cell_at, part_at, part_of, next_number};
+ghost use Rattle.support_text.specs.ProblemText.{end_line};
 
-use crate::listing::ListedCell;
+use crate::listing::{CellPart, ListedCell};
 use cayley::{Cell, Normal};
 use int_vectors::IntVec;
 use line_text::{Line, Lines};
 use std::alloc::Global;
-use support_text::{
-    Kind, TextFault, end, fault_at, next_line, no_line, nothing_more, number, word,
-};
+use support_text::{Kind, TextFault, fault_at, next_line, nothing_more, number, word};
 
 const LARGEST: i128 = i128::MAX;
 
@@ -32,20 +31,24 @@ fn cells_line(line: &mut Line) -> Result<usize, TextFault>
     Ok(count as usize)
 }
 
+// `cells K`: the number of its line, and K.
 #[tactic(auto, unfolding(support_text::specs::Words::next_line))]
-fn cell_count(lines: &mut Lines) -> Result<usize, TextFault>
-    ensures reading { Gives (λ n. (n, lines.new.rows)) result (spec.next_line listing.cells_line lines.old.end_line lines.old.rows) }
+fn cell_count(lines: &mut Lines) -> Result<(u64, usize), TextFault>
+    ensures reading { Gives (λ x. (x.1, lines.new.rows)) result (spec.next_line listing.cells_line lines.old.end_line lines.old.rows) }
+    ensures number { IfOk result (λ x. x.0 ≡ next_number lines.old.end_line lines.old.rows) }
     ensures end_line { lines.new.end_line ≡ lines.old.end_line }
 {
     let mut line = next_line(lines)?;
-    cells_line(&mut line)
+    let number = line.number();
+    let count = cells_line(&mut line)?;
+    Ok((number, count))
 }
 
-// Two positions of a support of so many file points.
+// Two positions, of which the first is less, up to a limit.
 #[tactic(auto, unfolding(crate::specs::ListingText::pair))]
 fn pair(line: &mut Line, count: usize) -> Result<(u32, u32), TextFault>
     requires least { 1 ≤ count }
-    requires greatest { count ≤ 1000 }
+    requires greatest { count ≤ 4294967295 }
     ensures reading { Gives (λ x. (x, words line.new)) result (listing.pair count line.old.number (words line.old)) }
     ensures rises { IfOk result (λ x. (1 ≤ x.0) × (x.0 < x.1)) }
     ensures number { line.new.number ≡ line.old.number }
@@ -60,9 +63,14 @@ fn pair(line: &mut Line, count: usize) -> Result<(u32, u32), TextFault>
     }
 }
 
-// A pair for each support.
-fn pairs(alloc: Global, counts: &[usize], line: &mut Line) -> Result<Vec<(u32, u32)>, TextFault>
-    requires { All (λ m. (1 ≤ m) × (m ≤ 1000)) counts.now }
+/// A pair of positions for each of the supports, of which the second is at most that support's
+/// number in `counts`, and the first is less.
+pub fn read_pairs(
+    alloc: Global,
+    counts: &[usize],
+    line: &mut Line,
+) -> Result<Vec<(u32, u32)>, TextFault>
+    requires { All (λ m. (1 ≤ m) × (m ≤ 4294967295)) counts.now }
     ensures reading { Gives (λ pairs. (pairs.items, words line.new)) result (series (length counts.now) (pair_at counts.now line.old.number) [] (words line.old)) }
     ensures rise { IfOk result (λ pairs. (length pairs.items ≡ length counts.now) × IsCell pairs.items) }
     ensures number { line.new.number ≡ line.old.number }
@@ -81,8 +89,8 @@ fn pairs(alloc: Global, counts: &[usize], line: &mut Line) -> Result<Vec<(u32, u
     Ok(pairs)
 }
 
-// `n` numbers of a normal.
-fn vector(alloc: Global, n: usize, line: &mut Line) -> Result<IntVec, TextFault>
+/// `n` numbers, each from -(2^127 - 1) to 2^127 - 1.
+pub fn read_vector(alloc: Global, n: usize, line: &mut Line) -> Result<IntVec, TextFault>
     ensures reading { Gives (λ v. (v, words line.new)) result (series n (normal_entry line.old.number) [] (words line.old)) }
     ensures number { line.new.number ≡ line.old.number }
 {
@@ -120,9 +128,9 @@ fn cell_line(alloc: Global, counts: &[usize], line: &mut Line) -> Result<ListedC
     ensures { Gives (λ cell. cell) result (listing.cell_line counts.now line.old.number (words line.old)) }
 {
     word(line, b"cell", Kind::Count)?;
-    let pairs = pairs(alloc, counts, line)?;
+    let pairs = read_pairs(alloc, counts, line)?;
     word(line, b":", Kind::Number)?;
-    let v = vector(alloc, counts.len(), line)?;
+    let v = read_vector(alloc, counts.len(), line)?;
     word(line, b"/", Kind::Number)?;
     let den = number(line, 1, LARGEST, Kind::Number, Kind::Range)?;
     nothing_more(line, Kind::Number)?;
@@ -174,42 +182,35 @@ fn cell_lines(
     Ok(cells)
 }
 
-/// The lines behind the file through their `end`: `cells K`, the cell lines and `end`. What follows is
-/// left in `lines`. The supports have so many file points.
-#[tactic(auto, unfolding(crate::specs::ListingText::cells_through))]
-pub fn cells_through(
-    alloc: Global,
-    counts: &[usize],
-    lines: &mut Lines,
-) -> Result<Vec<ListedCell>, TextFault>
-    requires least { 1 ≤ length counts.now }
-    requires greatest { length counts.now ≤ 16 }
-    requires counts { All (λ m. (1 ≤ m) × (m ≤ 1000)) counts.now }
-    ensures reading { Gives (λ cells. (cells.items, lines.new.rows)) result (listing.cells_through counts.now lines.old.end_line lines.old.rows) }
+// `end`, and the number of its line.
+#[tactic(auto, unfolding(support_text::specs::Words::next_line, support_text::specs::ProblemText::end_line))]
+fn last_line(lines: &mut Lines) -> Result<u64, TextFault>
+    ensures reading { Gives (λ number. (tt, lines.new.rows)) result (spec.next_line end_line lines.old.end_line lines.old.rows) }
+    ensures number { IfOk result (λ number. number ≡ next_number lines.old.end_line lines.old.rows) }
     ensures end_line { lines.new.end_line ≡ lines.old.end_line }
 {
-    let count = cell_count(lines)?;
-    let cells = cell_lines(alloc, counts, count, lines)?;
-    end(lines)?;
-    Ok(cells)
+    let mut line = next_line(lines)?;
+    word(&mut line, b"end", Kind::Extra)?;
+    nothing_more(&mut line, Kind::Extra)?;
+    Ok(line.number())
 }
 
-/// The lines behind the file: `cells K`, the cell lines and `end`, and no line behind that. The
-/// supports have so many file points.
-#[tactic(auto, unfolding(crate::specs::ListingText::cells_at))]
-pub fn cells(
-    alloc: Global,
-    counts: &[usize],
-    lines: &mut Lines,
-) -> Result<Vec<ListedCell>, TextFault>
+/// The lines `cells K` through `end` of supports of so many file points. What follows is left in
+/// `lines`.
+#[tactic(auto, unfolding(crate::specs::ListingText::part_at))]
+pub fn part(alloc: Global, counts: &[usize], lines: &mut Lines) -> Result<CellPart, TextFault>
     requires least { 1 ≤ length counts.now }
     requires greatest { length counts.now ≤ 16 }
     requires counts { All (λ m. (1 ≤ m) × (m ≤ 1000)) counts.now }
-    ensures { Gives (λ cells. cells.items) result (listing.cells_at counts.now lines.old.end_line lines.old.rows) }
+    ensures reading { Gives (λ part. (part_of part, lines.new.rows)) result (part_at counts.now lines.old.end_line lines.old.rows) }
+    ensures end_line { lines.new.end_line ≡ lines.old.end_line }
 {
-    let count = cell_count(lines)?;
+    let (cells_line, count) = cell_count(lines)?;
     let cells = cell_lines(alloc, counts, count, lines)?;
-    end(lines)?;
-    no_line(lines)?;
-    Ok(cells)
+    let end_line = last_line(lines)?;
+    Ok(CellPart {
+        cells_line,
+        cells,
+        end_line,
+    })
 }

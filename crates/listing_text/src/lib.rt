@@ -6,12 +6,13 @@ mod listing;
 mod reading;
 mod writing;
 
-pub use listing::{ListedCell, Listing};
+pub use cells::{read_pairs, read_vector};
+pub use listing::{CellPart, ListedCell, Listing};
 pub use reading::{
-    read_listing, read_listing_is_formed, read_listing_lines, read_listing_lines_is_formed,
-    written_listing_reads_back,
+    read_cells, read_cells_are_formed, read_listing, read_listing_is_formed, read_listing_lines,
+    read_listing_lines_is_formed, written_listing_reads_back,
 };
-pub use writing::{write_listing, write_positions};
+pub use writing::{append_cells, write_listing, write_positions, write_vector};
 
 #[cfg(test)]
 mod tests;

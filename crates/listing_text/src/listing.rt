@@ -18,3 +18,13 @@ pub struct Listing {
     pub file: LiftFile,
     pub cells: Vec<ListedCell>,
 }
+
+/// The cell lines of a text, with the lines before and behind them.
+#[derive(Drop)]
+pub struct CellPart {
+    /// The number of the line `cells K`, from 1.
+    pub cells_line: u64,
+    pub cells: Vec<ListedCell>,
+    /// The number of the line `end`.
+    pub end_line: u64,
+}

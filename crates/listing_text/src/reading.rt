@@ -4,19 +4,19 @@ ghost use Rattle.cayley.specs.Files.{File};
 ghost use Rattle.cayley.specs.Valid.{IsValidFile};
 ghost use Rattle.support_text.specs.Faults.{Gives};
 ghost use Rattle.listing_text.specs.ListingText as listing;
-ghost use Rattle.listing_text.specs.ListingText.{Listed, counts_of, listing_of, listing_at};
+ghost use Rattle.listing_text.specs.ListingText.{Listed, Part, counts_of, listing_of, listing_at, part_at, part_of};
 ghost use Rattle.line_text.specs.Lines.{Row};
 ghost use Rattle.listing_text.specs.Forms.{IsFormed, MeansListing, IsOfFile, found_of};
 ghost use Rattle.listing_text.specs.declared.listing.ListedCell.{ListedCell};
 ghost use Rattle.listing_text.specs.Writing.{listing_text};
 ghost use Rattle.int_vectors.specs.Vectors.{Each};
 
-use crate::cells::{cells, cells_through};
-use crate::listing::Listing;
+use crate::cells::part;
+use crate::listing::{CellPart, Listing};
 use cayley::{FilePoint, FoundCell, LiftFile};
 use line_text::Lines;
 use std::alloc::Global;
-use support_text::{TextFault, read_problem_lines};
+use support_text::{TextFault, no_line, read_problem_lines};
 use wide_int::OutOfMemory;
 
 // The lengths of lists of points.
@@ -43,35 +43,49 @@ fn point_counts(alloc: Global, file: &LiftFile) -> Result<Vec<usize>, OutOfMemor
     lengths(alloc, file.supports())
 }
 
+/// Reads the lines `cells K` through `end` that stand behind a file: its cell lines, and else the
+/// first faulty line and the kind of its fault. What follows is left in `lines`. After a fault `lines`
+/// stands behind the faulty line.
+pub fn read_cells(alloc: Global, lines: &mut Lines, file: &LiftFile) -> Result<CellPart, TextFault>
+    ensures reading { Gives (λ part. (part_of part, lines.new.rows)) result (part_at (counts_of file.now) lines.old.end_line lines.old.rows) }
+    ensures end_line { lines.new.end_line ≡ lines.old.end_line }
+{
+    let Ok(counts) = point_counts(alloc, file) else {
+        return Err(TextFault::OutOfMemory);
+    };
+    part(alloc, counts.as_slice(), lines)
+}
+
 /// Reads a listing: the file and the cell lines where the bytes are one, and else the first faulty
 /// line and the kind of its fault. A listing is right in form without its cells being mixed cells.
-#[tactic(auto, unfolding(crate::specs::ListingText::listing_of))]
+#[tactic(auto, unfolding(crate::specs::ListingText::listing_of, crate::specs::ListingText::cells_at))]
 pub fn read_listing(alloc: Global, bytes: &[u8]) -> Result<Listing, TextFault>
     ensures { Gives (λ listing. (listing.file, listing.cells.items)) result (listing_of bytes.now) }
 {
     let mut lines = Lines::new(bytes);
     let file = read_problem_lines(alloc, &mut lines)?;
-    let Ok(counts) = point_counts(alloc, &file) else {
-        return Err(TextFault::OutOfMemory);
-    };
-    let cells = cells(alloc, counts.as_slice(), &mut lines)?;
-    Ok(Listing { file, cells })
+    let part = read_cells(alloc, &mut lines, &file)?;
+    no_line(&mut lines)?;
+    Ok(Listing {
+        file,
+        cells: part.cells,
+    })
 }
 
 /// Reads a listing from its first line through its `end`: the file and the cell lines, and else the
 /// first faulty line and the kind of its fault. What follows is left in `lines`. After a fault `lines`
 /// stands behind the faulty line.
-#[tactic(auto, unfolding(crate::specs::ListingText::listing_at))]
+#[tactic(auto, unfolding(crate::specs::ListingText::listing_at, crate::specs::ListingText::cells_through))]
 pub fn read_listing_lines(alloc: Global, lines: &mut Lines) -> Result<Listing, TextFault>
     ensures reading { Gives (λ listing. ((listing.file, listing.cells.items), lines.new.rows)) result (listing_at lines.old.end_line lines.old.rows) }
     ensures end_line { lines.new.end_line ≡ lines.old.end_line }
 {
     let file = read_problem_lines(alloc, lines)?;
-    let Ok(counts) = point_counts(alloc, &file) else {
-        return Err(TextFault::OutOfMemory);
-    };
-    let cells = cells_through(alloc, counts.as_slice(), lines)?;
-    Ok(Listing { file, cells })
+    let part = read_cells(alloc, lines, &file)?;
+    Ok(Listing {
+        file,
+        cells: part.cells,
+    })
 }
 
 /// What `write_listing` writes of a file and up to 4,294,967,295 cells of its points is read as
@@ -95,4 +109,11 @@ pub fn read_listing_lines_is_formed()
     ensures valid { (end : ℕ) (rows rest : List Row) (listed : Listed) → listing_at end rows ≡ Ok (listed, rest) → IsValidFile listed.0 }
     ensures formed { (end : ℕ) (rows rest : List Row) (listed : Listed) → listing_at end rows ≡ Ok (listed, rest) → Each listed.1 (λ x. IsFormed (counts_of listed.0) (found_of x)) }
     ensures of_file { (end : ℕ) (rows rest : List Row) (listed : Listed) → listing_at end rows ≡ Ok (listed, rest) → Each listed.1 (IsOfFile listed.0) }
+{}
+
+/// Of what `read_cells` answers for a file, each listed cell is of the problem of the file's points,
+/// with as many numbers as the dimension over a denominator of at least 1.
+pub fn read_cells_are_formed()
+    ensures formed { (counts : List ℕ) (end : ℕ) (rows rest : List Row) (part : Part) → part_at counts end rows ≡ Ok (part, rest) → Each part.cells (λ x. IsFormed counts (found_of x)) }
+    ensures of_file { (file : File) (end : ℕ) (rows rest : List Row) (part : Part) → IsValidFile file → part_at (counts_of file) end rows ≡ Ok (part, rest) → Each part.cells (IsOfFile file) }
 {}

@@ -1,8 +1,9 @@
-use crate::{read_listing, write_listing};
+use crate::{read_cells, read_listing, write_listing};
 use cayley::FoundCell;
+use line_text::Lines;
 use std::alloc::Global;
 use std::test::Fail;
-use support_text::TextFault;
+use support_text::{TextFault, read_problem_lines};
 
 // The line and the kind of a text's first fault, or 0 and 0 where it is a listing.
 fn judged(alloc: Global, text: &[u8]) -> Result<(u64, u8), Fail> {
@@ -120,5 +121,24 @@ fn odd_spelling_is_rewritten(rt: HostRuntime) -> Result<(), Fail> {
         text.as_slice(),
         b"mixedcells 1\ndim 1\nsupport 2\n0 : 0\n2 : 1\nend\ncells 1\ncell 1 2 : -1 / 2\nend\n".as_slice()
     );
+    Ok(())
+}
+
+#[test]
+fn cells_are_read_through_their_end(rt: HostRuntime) -> Result<(), Fail> {
+    let text =
+        b"mixedcells 1\ndim 1\nsupport 2\n0 : 0\n2 : 1\nend\n\ncells 1\ncell 1 2 : -1 / 2\n\nend\nmore\n";
+    let mut lines = Lines::new(text);
+    let Ok(file) = read_problem_lines(rt.alloc(), &mut lines) else {
+        return Err(Fail::from("the text begins with no file"));
+    };
+    let Ok(part) = read_cells(rt.alloc(), &mut lines, &file) else {
+        return Err(Fail::from("no cells stand behind the file"));
+    };
+    assert_eq!(rt; part.cells_line, 8);
+    assert_eq!(rt; part.cells.len(), 1);
+    assert_eq!(rt; part.end_line, 11);
+    assert_eq!(rt; lines.next_line().is_some(), true);
+    assert_eq!(rt; lines.next_line().is_some(), false);
     Ok(())
 }

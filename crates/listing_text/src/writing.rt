@@ -2,7 +2,7 @@
 ghost use Rattle.std.specs.Prelude.{◌≡◌, ◌++◌, pos, ℕ, List, [], ◌∷◌, codes, decimal, length, flat_map, IfOk, OnOk};
 ghost use Rattle.std.specs.Fmt.{signed_decimal};
 ghost use Rattle.support_text.specs.Words.{text_of};
-ghost use Rattle.listing_text.specs.Writing.{cell_words, listing_text};
+ghost use Rattle.listing_text.specs.Writing.{cell_words, cells_lines, listing_text};
 
 use cayley::{FoundCell, LiftFile};
 use line_text::write_int;
@@ -29,8 +29,8 @@ pub fn write_positions(out: &mut Vec<u8>, pairs: &[(u32, u32)]) -> Result<(), Ou
     Ok(())
 }
 
-// Appends each number of a vector behind a blank.
-fn write_vector(out: &mut Vec<u8>, entries: &[i128]) -> Result<(), OutOfMemory>
+/// Appends each number of a vector behind a blank.
+pub fn write_vector(out: &mut Vec<u8>, entries: &[i128]) -> Result<(), OutOfMemory>
     ensures { OnOk result (out.new.items ≡ out.old.items ++ flat_map (λ z. codes " " ++ signed_decimal z) entries.now) }
 {
     for entry in entries {
@@ -63,6 +63,15 @@ fn write_cells(out: &mut Vec<u8>, cells: &[FoundCell]) -> Result<(), OutOfMemory
     Ok(())
 }
 
+/// Appends the lines behind the file: the line `cells K`, a line for each cell and the line `end`.
+pub fn append_cells(out: &mut Vec<u8>, cells: &[FoundCell]) -> Result<(), OutOfMemory>
+    ensures { OnOk result (out.new.items ≡ out.old.items ++ text_of (cells_lines cells.now)) }
+{
+    write_count(out, b"cells", cells.len())?;
+    write_cells(out, cells)?;
+    write_bytes(out, b"end\n")
+}
+
 // Appends a listing.
 fn append_listing(
     out: &mut Vec<u8>,
@@ -72,9 +81,7 @@ fn append_listing(
     ensures { OnOk result (out.new.items ≡ out.old.items ++ listing_text file.now cells.now) }
 {
     append_problem(file, out)?;
-    write_count(out, b"cells", cells.len())?;
-    write_cells(out, cells)?;
-    write_bytes(out, b"end\n")
+    append_cells(out, cells)
 }
 
 /// The text of a listing: the file's canonical text, the line `cells K`, a line for each cell and the line `end`.

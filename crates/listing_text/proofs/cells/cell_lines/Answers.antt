@@ -1,4 +1,4 @@
-use Rattle.std.proofs.Common.{◌≡◌, ℕ, ◌+◌, ◌-◌, ◌<◌, ◌≤◌, ◌∙◌, ap, sym, subst, refl, ℤ, pos, neg_ℤ, List, [], ◌∷◌, ◌++◌, map, length, Result, Ok, Err, arith}
+use Rattle.std.proofs.Common.{◌≡◌, ℕ, ◌+◌, ◌-◌, ◌∙◌, ap, sym, subst, refl, List, [], ◌∷◌, ◌++◌}
 use Rattle.support_text.specs.Faults.{series}
 use Rattle.support_text.proofs.Series.{series_start, series_step, series_end, series_fails}
 use Rattle.listing_text.specs.declared.listing.ListedCell.{ListedCell}

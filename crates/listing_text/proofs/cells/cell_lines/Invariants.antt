@@ -1,4 +1,4 @@
-use Rattle.std.proofs.Common.{◌≡◌, ℕ, ◌+◌, ◌-◌, ◌<◌, ◌≤◌, ◌∙◌, ap, sym, subst, refl, ℤ, pos, neg_ℤ, List, [], ◌∷◌, ◌++◌, map, length, Result, Ok, Err, arith}
+use Rattle.std.proofs.Common.{◌≡◌, ◌-◌, []}
 use Rattle.support_text.specs.Faults.{series}
 use Rattle.listing_text.specs.ListingText.{cell_at}
 use Rattle.listing_text.proofs.cells.cell_lines.Given as goal

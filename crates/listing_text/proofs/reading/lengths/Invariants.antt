@@ -1,4 +1,4 @@
-use Rattle.std.proofs.Common.{◌≡◌, ℕ, ◌+◌, ◌-◌, ◌<◌, ◌≤◌, ◌∙◌, ap, sym, subst, refl, ℤ, pos, neg_ℤ, List, [], ◌∷◌, ◌++◌, map, length, Result, Ok, Err, arith}
+use Rattle.std.proofs.Common.{◌≡◌, map, length}
 use Rattle.std.proofs.Common.{take}
 use Rattle.listing_text.proofs.reading.lengths.Given as goal
 

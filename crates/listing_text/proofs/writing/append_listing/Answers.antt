@@ -3,4 +3,4 @@ use Rattle.listing_text.proofs.Written.{listing_written}
 use Rattle.listing_text.proofs.writing.append_listing.Goals as goal
 
 pub returns : goal.returns
-returns c = on_ok_weaker _ (listing_written _ _ _ _ _ c.args.file.now c.args.cells.now c.in_ok-append_problem.ensures c.in_ok-write_count.ensures c.in_ok-write_cells.ensures) c.write_bytes.ensures.ok
+returns c = on_ok_weaker _ (listing_written _ _ _ c.args.file.now c.args.cells.now c.in_ok-append_problem.ensures) c.append_cells.ensures

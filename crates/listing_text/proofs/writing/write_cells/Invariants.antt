@@ -1,5 +1,4 @@
-use Rattle.std.proofs.Common.{◌≡◌, ◌++◌, List, [], ◌∷◌, take, codes, decimal, flat_map}
-use Rattle.std.specs.Fmt.{signed_decimal}
+use Rattle.std.proofs.Common.{◌≡◌, ◌++◌, [], ◌∷◌, take, flat_map}
 use Rattle.support_text.specs.Words.{text_of}
 use Rattle.listing_text.specs.Writing.{cell_words}
 use Rattle.listing_text.proofs.writing.write_cells.Given as goal

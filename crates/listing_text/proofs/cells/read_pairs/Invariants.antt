@@ -1,9 +1,9 @@
-use Rattle.std.proofs.Common.{◌≡◌, ℕ, ◌+◌, ◌-◌, ◌<◌, ◌≤◌, ◌∙◌, ap, sym, subst, refl, ℤ, pos, neg_ℤ, List, [], ◌∷◌, ◌++◌, map, length, Result, Ok, Err, arith}
+use Rattle.std.proofs.Common.{◌≡◌, ◌-◌, [], length}
 use Rattle.cayley.specs.Cells.{IsCell}
 use Rattle.support_text.specs.Faults.{series}
 use Rattle.support_text.specs.Words.{words}
 use Rattle.listing_text.specs.ListingText.{pair_at}
-use Rattle.listing_text.proofs.cells.pairs.Given as goal
+use Rattle.listing_text.proofs.cells.read_pairs.Given as goal
 
 abbrev pub invariant-loop-place : goal.invariant-loop-place
 invariant-loop-place l = record {

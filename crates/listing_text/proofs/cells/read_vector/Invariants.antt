@@ -1,9 +1,9 @@
-use Rattle.std.proofs.Common.{◌≡◌, ℕ, ◌+◌, ◌-◌, ◌<◌, ◌≤◌, ◌∙◌, ap, sym, subst, refl, ℤ, pos, neg_ℤ, List, [], ◌∷◌, ◌++◌, map, length, Result, Ok, Err, arith}
+use Rattle.std.proofs.Common.{◌≡◌, ◌-◌, []}
 use Rattle.int_vectors.specs.Fits.{AllFit}
 use Rattle.support_text.specs.Faults.{series}
 use Rattle.support_text.specs.Words.{words}
 use Rattle.listing_text.specs.ListingText.{normal_entry}
-use Rattle.listing_text.proofs.cells.vector.Given as goal
+use Rattle.listing_text.proofs.cells.read_vector.Given as goal
 
 abbrev pub invariant-loop-turn : goal.invariant-loop-turn
 invariant-loop-turn l = record {

@@ -1,14 +1,14 @@
-use Rattle.std.proofs.Common.{◌≡◌, ℕ, ◌+◌, ◌-◌, ◌<◌, ◌≤◌, ◌∙◌, ap, sym, subst, refl, ℤ, pos, neg_ℤ, List, [], ◌∷◌, ◌++◌, map, length, Result, Ok, Err, arith}
+use Rattle.std.proofs.Common.{◌≡◌, ℕ, ◌+◌, ◌-◌, ◌∙◌, ap, sym, subst, refl, ℤ, List, [], ◌∷◌, ◌++◌, Ok}
 use Rattle.std.specs.Int.{w128}
 use Rattle.std.proofs.lemmas.Int.{to_z-of_z}
 use Rattle.int_vectors.specs.Fits.{AllFit}
 use Rattle.int_vectors.proofs.Differences.{all-append}
 use Rattle.support_text.specs.Faults.{series}
-use Rattle.support_text.specs.Words.{Text, words}
+use Rattle.support_text.specs.Words.{words}
 use Rattle.support_text.proofs.Series.{series_start, series_step, series_end, series_fails}
 use Rattle.listing_text.specs.ListingText.{normal_entry}
 use Rattle.listing_text.proofs.Limits.{entry_width, entry_fits}
-use Rattle.listing_text.proofs.cells.vector.Goals as goal
+use Rattle.listing_text.proofs.cells.read_vector.Goals as goal
 
 pub loop-turn-init : goal.loop-turn-init
 loop-turn-init c = record {

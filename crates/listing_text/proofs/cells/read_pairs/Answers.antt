@@ -1,13 +1,13 @@
-use Rattle.std.proofs.Common.{◌≡◌, ℕ, ◌+◌, ◌-◌, ◌<◌, ◌≤◌, ◌∙◌, ap, sym, subst, refl, ℤ, pos, neg_ℤ, List, [], ◌∷◌, ◌++◌, map, length, Result, Ok, Err, arith}
+use Rattle.std.proofs.Common.{◌≡◌, ℕ, ◌+◌, ◌-◌, ◌<◌, ◌≤◌, ◌∙◌, ap, sym, subst, refl, List, [], ◌∷◌, ◌++◌, length, Ok, arith}
 use Rattle.std.proofs.lemmas.List.{length-append}
 use Rattle.std.specs.Prelude.{slice_index_or}
 use Rattle.cayley.specs.Cells.{IsCell}
 use Rattle.support_text.specs.Faults.{Fails, series}
-use Rattle.support_text.specs.Words.{Text, words}
+use Rattle.support_text.specs.Words.{words}
 use Rattle.support_text.proofs.Series.{series_start, series_step, series_end, series_fails}
 use Rattle.listing_text.specs.ListingText.{pair, pair_at}
 use Rattle.listing_text.proofs.Limits.{each-push}
-use Rattle.listing_text.proofs.cells.pairs.Goals as goal
+use Rattle.listing_text.proofs.cells.read_pairs.Goals as goal
 
 pub loop-place-init : goal.loop-place-init
 loop-place-init c = record {
