@@ -1,0 +1,3 @@
+pub mod Preorders
+pub mod Matrices
+pub mod Inverses
