@@ -78,7 +78,7 @@ pairs_again counts line cell ws h small =
 
 -- ---- cell lines
 
-abbrev largest : ℤ
+abbrev pub largest : ℤ
 largest = pos (2 ^ 127 - 1)
 
 pub entries_small : AreSmall (neg_ℤ largest) largest

@@ -13,22 +13,28 @@ use Rattle.support_text.proofs.Written.{text_append, text_each}
 use Rattle.listing_text.specs.Writing.{position_words, cell_words, cells_lines, listing_text}
 
 -- words that have a blank before each
-abbrev spaced : List Text → List ℕ
+abbrev pub spaced : List Text → List ℕ
 spaced ws = flat_map (λ u. 32 ∷ u) ws
 
-led : (w : Text) (ws : List Text) → join_with_byte 32 (w ∷ ws) ≡ w ++ spaced ws
+pub led : (w : Text) (ws : List Text) → join_with_byte 32 (w ∷ ws) ≡ w ++ spaced ws
 led w [] = sym (append-nil w)
 led w (u ∷ ws) = ap (λ t. w ++ (32 ∷ t)) (led u ws)
 
-positions : (cell : Cell) → flat_map (λ x. (codes " " ++ decimal x.0) ++ (codes " " ++ decimal x.1)) cell ≡ spaced (position_words cell)
+pub positions : (cell : Cell) → flat_map (λ x. (codes " " ++ decimal x.0) ++ (codes " " ++ decimal x.1)) cell ≡ spaced (position_words cell)
 positions [] = refl
 positions (x ∷ cell) =
     ap (λ t. ((codes " " ++ decimal x.0) ++ (codes " " ++ decimal x.1)) ++ t) (positions cell)
     ∙ append_assoc (codes " " ++ decimal x.0) (codes " " ++ decimal x.1) (spaced (position_words cell))
 
-numbers : (v : List ℤ) → flat_map (λ z. codes " " ++ signed_decimal z) v ≡ spaced (map signed_decimal v)
+pub numbers : (v : List ℤ) → flat_map (λ z. codes " " ++ signed_decimal z) v ≡ spaced (map signed_decimal v)
 numbers [] = refl
 numbers (z ∷ v) = ap (λ t. (codes " " ++ signed_decimal z) ++ t) (numbers v)
+
+-- seven pieces behind what stands there
+pub seven : (o a b c d e f g : List ℕ) → ((((((o ++ a) ++ b) ++ c) ++ d) ++ e) ++ f) ++ g ≡ o ++ (a ++ (b ++ (c ++ (d ++ (e ++ (f ++ g))))))
+seven o a b c d e f g =
+    append_assoc (((((o ++ a) ++ b) ++ c) ++ d) ++ e) f g ∙ append_assoc ((((o ++ a) ++ b) ++ c) ++ d) e (f ++ g) ∙ append_assoc (((o ++ a) ++ b) ++ c) d (e ++ (f ++ g))
+    ∙ append_assoc ((o ++ a) ++ b) c (d ++ (e ++ (f ++ g))) ∙ append_assoc (o ++ a) b (c ++ (d ++ (e ++ (f ++ g)))) ∙ append_assoc o a (b ++ (c ++ (d ++ (e ++ (f ++ g)))))
 
 -- the line of a cell
 pub cell_written : (o i j k l m n p : List ℕ) (x : FoundCell) → i ≡ o ++ codes "cell"
@@ -44,11 +50,6 @@ cell_written o i j k l m n p x a b c d e f g =
     ∙ ap (λ q. o ++ q) (ap₂ (λ u w. codes "cell" ++ (u ++ (codes " :" ++ (w ++ (codes " / " ++ (h ++ codes "\n")))))) (positions x.cell) (numbers x.normal.v)
     ∙ sym (append-nil (join_with_byte 32 (cell_words x) ++ 10 ∷ []) ∙ ap (λ q. q ++ 10 ∷ []) whole ∙ line (spaced (position_words x.cell)) (spaced (map signed_decimal x.normal.v)) h))
   where
-    seven : (o a b c d e f g : List ℕ) → ((((((o ++ a) ++ b) ++ c) ++ d) ++ e) ++ f) ++ g ≡ o ++ (a ++ (b ++ (c ++ (d ++ (e ++ (f ++ g))))))
-    seven o a b c d e f g =
-        append_assoc (((((o ++ a) ++ b) ++ c) ++ d) ++ e) f g ∙ append_assoc ((((o ++ a) ++ b) ++ c) ++ d) e (f ++ g) ∙ append_assoc (((o ++ a) ++ b) ++ c) d (e ++ (f ++ g))
-        ∙ append_assoc ((o ++ a) ++ b) c (d ++ (e ++ (f ++ g))) ∙ append_assoc (o ++ a) b (c ++ (d ++ (e ++ (f ++ g)))) ∙ append_assoc o a (b ++ (c ++ (d ++ (e ++ (f ++ g)))))
-
     whole : join_with_byte 32 (cell_words x) ≡ codes "cell" ++ (spaced (position_words x.cell) ++ ((32 ∷ codes ":") ++ (spaced (map signed_decimal x.normal.v) ++ ((32 ∷ codes "/") ++ ((32 ∷ signed_decimal x.normal.den) ++ [])))))
     whole = led (codes "cell") (position_words x.cell ++ codes ":" ∷ (map signed_decimal x.normal.v ++ codes "/" ∷ signed_decimal x.normal.den ∷ []))
         ∙ ap (λ q. codes "cell" ++ q) (flat_map-append (λ u. 32 ∷ u) (position_words x.cell) (codes ":" ∷ (map signed_decimal x.normal.v ++ codes "/" ∷ signed_decimal x.normal.den ∷ []))

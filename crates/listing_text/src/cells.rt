@@ -63,13 +63,8 @@ fn pair(line: &mut Line, count: usize) -> Result<(u32, u32), TextFault>
     }
 }
 
-/// A pair of positions for each of the supports, of which the second is at most that support's
-/// number in `counts`, and the first is less.
-pub fn read_pairs(
-    alloc: Global,
-    counts: &[usize],
-    line: &mut Line,
-) -> Result<Vec<(u32, u32)>, TextFault>
+// A pair for each support.
+fn pairs(alloc: Global, counts: &[usize], line: &mut Line) -> Result<Vec<(u32, u32)>, TextFault>
     requires { All (λ m. (1 ≤ m) × (m ≤ 4294967295)) counts.now }
     ensures reading { Gives (λ pairs. (pairs.items, words line.new)) result (series (length counts.now) (pair_at counts.now line.old.number) [] (words line.old)) }
     ensures rise { IfOk result (λ pairs. (length pairs.items ≡ length counts.now) × IsCell pairs.items) }
@@ -119,6 +114,19 @@ fn cell_of(alloc: Global, pairs: &[(u32, u32)]) -> Cell
     }
 }
 
+/// A cell: a pair of positions for each of the supports, of which the second is at most that support's
+/// number in `counts`, and the first is less.
+pub fn read_positions(alloc: Global, counts: &[usize], line: &mut Line) -> Result<Cell, TextFault>
+    requires least { 1 ≤ length counts.now }
+    requires greatest { length counts.now ≤ 16 }
+    requires counts { All (λ m. (1 ≤ m) × (m ≤ 4294967295)) counts.now }
+    ensures reading { Gives (λ cell. (cell, words line.new)) result (series (length counts.now) (pair_at counts.now line.old.number) [] (words line.old)) }
+    ensures number { line.new.number ≡ line.old.number }
+{
+    let pairs = pairs(alloc, counts, line)?;
+    Ok(cell_of(alloc, pairs.as_slice()))
+}
+
 // A cell line.
 #[tactic(auto, unfolding(crate::specs::ListingText::cell_line))]
 fn cell_line(alloc: Global, counts: &[usize], line: &mut Line) -> Result<ListedCell, TextFault>
@@ -128,13 +136,12 @@ fn cell_line(alloc: Global, counts: &[usize], line: &mut Line) -> Result<ListedC
     ensures { Gives (λ cell. cell) result (listing.cell_line counts.now line.old.number (words line.old)) }
 {
     word(line, b"cell", Kind::Count)?;
-    let pairs = read_pairs(alloc, counts, line)?;
+    let cell = read_positions(alloc, counts, line)?;
     word(line, b":", Kind::Number)?;
     let v = read_vector(alloc, counts.len(), line)?;
     word(line, b"/", Kind::Number)?;
     let den = number(line, 1, LARGEST, Kind::Number, Kind::Range)?;
     nothing_more(line, Kind::Number)?;
-    let cell = cell_of(alloc, pairs.as_slice());
     let line = line.number();
     Ok(ListedCell {
         line,

@@ -6,11 +6,11 @@ mod listing;
 mod reading;
 mod writing;
 
-pub use cells::{read_pairs, read_vector};
+pub use cells::{read_positions, read_vector};
 pub use listing::{CellPart, ListedCell, Listing};
 pub use reading::{
-    read_cells, read_cells_are_formed, read_listing, read_listing_is_formed, read_listing_lines,
-    read_listing_lines_is_formed, written_listing_reads_back,
+    point_counts, read_cells, read_cells_are_formed, read_listing, read_listing_is_formed,
+    read_listing_lines, read_listing_lines_is_formed, written_listing_reads_back,
 };
 pub use writing::{append_cells, write_listing, write_positions, write_vector};
 

@@ -7,7 +7,7 @@ use Rattle.support_text.specs.Words.{words}
 use Rattle.support_text.proofs.Series.{series_start, series_step, series_end, series_fails}
 use Rattle.listing_text.specs.ListingText.{pair, pair_at}
 use Rattle.listing_text.proofs.Limits.{each-push}
-use Rattle.listing_text.proofs.cells.read_pairs.Goals as goal
+use Rattle.listing_text.proofs.cells.pairs.Goals as goal
 
 pub loop-place-init : goal.loop-place-init
 loop-place-init c = record {

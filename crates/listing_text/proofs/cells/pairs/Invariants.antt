@@ -3,7 +3,7 @@ use Rattle.cayley.specs.Cells.{IsCell}
 use Rattle.support_text.specs.Faults.{series}
 use Rattle.support_text.specs.Words.{words}
 use Rattle.listing_text.specs.ListingText.{pair_at}
-use Rattle.listing_text.proofs.cells.read_pairs.Given as goal
+use Rattle.listing_text.proofs.cells.pairs.Given as goal
 
 abbrev pub invariant-loop-place : goal.invariant-loop-place
 invariant-loop-place l = record {

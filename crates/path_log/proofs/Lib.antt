@@ -1,0 +1,4 @@
+pub mod Spans
+pub mod Written
+pub mod LogBack
+pub mod LogForms

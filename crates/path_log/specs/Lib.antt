@@ -1,0 +1,3 @@
+pub mod LogText
+pub mod Forms
+pub mod Writing
