@@ -8,8 +8,8 @@ mod writing;
 
 pub use listing::{ListedCell, Listing};
 pub use reading::{
-    read_listing, read_listing_is_formed, read_listing_lines, read_listing_lines_is_formed,
-    written_listing_reads_back,
+    point_counts, read_listing, read_listing_is_formed, read_listing_lines,
+    read_listing_lines_is_formed, written_listing_reads_back,
 };
 pub use writing::{write_listing, write_positions};
 

@@ -33,8 +33,8 @@ fn lengths(alloc: Global, supports: &[Vec<FilePoint>]) -> Result<Vec<usize>, Out
     Ok(counts)
 }
 
-// How many points each support of a file has.
-fn point_counts(alloc: Global, file: &LiftFile) -> Result<Vec<usize>, OutOfMemory>
+/// How many points each support of a file has.
+pub fn point_counts(alloc: Global, file: &LiftFile) -> Result<Vec<usize>, OutOfMemory>
     ensures value { IfOk result (λ counts. counts.items ≡ listing.counts_of file.now) }
     ensures least { IfOk result (λ counts. 1 ≤ length counts.items) }
     ensures greatest { IfOk result (λ counts. length counts.items ≤ 16) }
