@@ -17,3 +17,4 @@ mod NarrowPoints
 mod FrontEnds
 mod CellLines
 mod PassingLines
+mod RestingLines

@@ -11,3 +11,4 @@ pub mod Rooms
 pub mod NarrowLines
 pub mod Fronts
 pub mod Ends
+pub mod Rests

@@ -2,7 +2,7 @@
 ghost use Rattle.std.specs.Prelude.{◌≡◌, ◌+◌, ◌<ℤ◌, pos, List, IsTrue, IfSome, MatchOption};
 ghost use Rattle.lex_height.specs.Values as lex;
 ghost use Rattle.cayley.specs.Cells.{IsOf};
-ghost use Rattle.cayley.specs.Problems.{version1};
+ghost use Rattle.cayley.specs.Problems.{version1, IsStill};
 ghost use Rattle.crossing.specs.declared.line.WallLine.{WallLine as Line};
 ghost use Rattle.crossing.specs.Lines.{IsFlat, IsZeroAt};
 ghost use Rattle.crossing.specs.Places.{IsNowhere};
@@ -14,6 +14,7 @@ ghost use Rattle.cone_walls.specs.Rooms.{IsNarrowOf};
 use crate::fines::nothing;
 use crate::fronts::{Fall, Front};
 use crate::passing::front_of;
+use crate::rests::is_resting;
 use crate::rooms::is_narrow_of;
 use crate::steps::Steps;
 use cayley::{Cell, Place, Problem};
@@ -89,9 +90,10 @@ fn end_at(alloc: Global, front: &Front) -> End
     }
 }
 
-/// Where a cell of a problem of the first version that is alive at some time ends, from its normal:
+/// Where a cell of a problem of the first version whose file points rest ends, if it is alive at some time, from its normal:
 /// the least zero of a falling wall line, as `exit_of` gives it of the lines of
-/// [`walls_of`](crate::walls_of). No line is kept, and it takes no memory. `None` where a number might
+/// [`walls_of`](crate::walls_of). No line is kept, and it takes no memory; a cell of file points alone
+/// needs no line at all. `None` where a number might
 /// not fit in 64 bits: then it counts no step, else it is one.
 pub fn end_of<L: Ledger>(
     alloc: Global,
@@ -102,6 +104,7 @@ pub fn end_of<L: Ledger>(
 ) -> Option<End>
     requires of { IsOf problem.now cell.now }
     requires normal { IsMovingNormal problem.now cell.now normal.now }
+    requires still { IsStill problem.now }
     requires first { problem.now.version ≡ version1 }
     ensures step { MatchOption result (steps.new ≡ steps.old) (λ _. steps.new ≡ steps.old + 1) }
     ensures end { IfSome result (IsEndOf problem.now cell.now normal.now) }
@@ -112,6 +115,9 @@ pub fn end_of<L: Ledger>(
         return None;
     }
     steps.tick();
+    if is_resting(problem, cell, normal) {
+        return Some(End::Never);
+    }
     let front = front_of(problem, cell, normal);
     Some(end_at(alloc, &front))
 }

@@ -7,6 +7,7 @@ mod fines;
 mod fronts;
 mod lines;
 mod passing;
+mod rests;
 mod rooms;
 mod slopes;
 mod steps;

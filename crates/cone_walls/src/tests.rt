@@ -1,6 +1,6 @@
 ghost use Rattle.std.specs.Prelude.{◌≡◌, ◌+◌, ◌<◌, All, IfOk};
 ghost use Rattle.cayley.specs.Cells.{IsOf};
-ghost use Rattle.cayley.specs.Problems.{version1};
+ghost use Rattle.cayley.specs.Problems.{version1, IsStill};
 ghost use Rattle.crossing.specs.Lines.{FitsLine};
 
 use crate::{CellFault, End, Steps, WallLine, Walls, end_of, walls_of};
@@ -152,6 +152,7 @@ fn ended<L: Ledger>(
     requires ledger { (blank.name ≡ L.name) × (blank.parts ≡ L.parts) × (0 < blank.parts) }
     requires of { IsOf problem.now cell.now }
     requires first { problem.now.version ≡ version1 }
+    requires still { IsStill problem.now }
 {
     let mut steps = Steps::<L>::new(blank);
     let walls = match walls_of(alloc, problem, cell, &mut steps) {
@@ -167,7 +168,7 @@ fn ended_at(alloc: Global, pairs: &[(u32, u32)]) -> Result<Option<End>, Fail> {
     let Some(cell) = Cell::new(alloc, pairs) else {
         return Ok(None);
     };
-    if !problem.contains(&cell) {
+    if !problem.contains(&cell) || !problem.is_still() {
         return Ok(None);
     }
     match ended::<Brand>(alloc, &problem, &cell, Blank::new(1)) {
