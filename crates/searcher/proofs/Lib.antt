@@ -16,3 +16,4 @@ pub mod Orders
 pub mod Turns
 pub mod Results
 pub mod CountedShares
+mod UntiedChildren
