@@ -2,6 +2,7 @@ mod AllCircuits
 mod KeptChildren
 mod ZeroLines
 mod LinePoints
+mod LaterLines
 mod TwoEnds
 mod OneAnswer
 mod ShownEnds
