@@ -18,3 +18,6 @@ pub mod Turns
 pub mod Results
 pub mod CountedShares
 mod UntiedChildren
+mod MadeEnds
+mod LastCells
+mod MadeBranches

@@ -1,5 +1,5 @@
 -- ties where a cell begins and ends, by the lines that are zero there
-use Rattle.std.proofs.Common.{◌≡◌, ◌⊎◌, inl, inr, ℕ, ◌-◌, ◌<◌, ◌≤◌, List, length, arith, refl, sym, subst, ℤ, pos, neg_ℤ, ◌<ℤ◌}
+use Rattle.std.proofs.Common.{◌≡◌, ℕ, ◌-◌, ◌<◌, List, length, arith, refl, subst, pos, ◌<ℤ◌}
 use Rattle.std.proofs.lemmas.Int.{ints}
 use Rattle.std.proofs.lemmas.List.{get_or_default}
 use Rattle.int_vectors.specs.Vectors.{IsZero}
@@ -21,14 +21,13 @@ use Rattle.cayley.proofs.OneCell.CellNormals.{a_normal}
 use Rattle.cayley.proofs.Life.LifeLaws.{once_law}
 use Rattle.cayley.proofs.Life.ShownTies.{spots_apart}
 use Rattle.crossing.specs.declared.line.WallLine.{WallLine}
-use Rattle.crossing.specs.declared.entry.Entry.{Entry}
 use Rattle.crossing.specs.declared.entry.Entry.TheVariants as entry
 use Rattle.crossing.specs.declared.exit.Exit.{Exit}
 use Rattle.crossing.specs.declared.exit.Exit.TheVariants as exit
 use Rattle.crossing.specs.declared.leaders.Way.TheVariants.{Falling, Rising}
 use Rattle.crossing.specs.Leading.{nth}
 use Rattle.crossing.specs.Lines.{value, ArePositive}
-use Rattle.crossing.specs.Entries.{RisesAt, LiveSometime, IsEntry}
+use Rattle.crossing.specs.Entries.{RisesAt, IsEntry}
 use Rattle.crossing.specs.Exits.{FallsAt, IsExit}
 use Rattle.crossing.specs.Places.{HasAt, origin}
 use Rattle.crossing.proofs.Lists.{not_zero}

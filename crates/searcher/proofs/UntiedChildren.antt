@@ -1,15 +1,14 @@
 -- a child isn't tied where it begins, if its parent isn't tied where it ends
-use Rattle.std.proofs.Common.{◌≡◌, ◌≢◌, ◌⊎◌, inl, inr, ℤ, pos, ◌<ℤ◌, ℕ, zero, suc, ◌<◌, ◌≤◌, List, [], ◌∷◌, arith, refl, sym, ap, ap₂, subst, ◌∙◌}
+use Rattle.std.proofs.Common.{◌≡◌, ◌≢◌, ◌⊎◌, inl, inr, ℕ, zero, suc, List, [], ◌∷◌, arith, refl, sym, ap, subst, ◌∙◌}
 use Rattle.std.proofs.lemmas.Int.{ints}
 use native.Mathlib.Decide.{ℕ_discrete}
 use Rattle.cayley.specs.Times.{Time}
 use Rattle.cayley.specs.Problems.{Point, Problem, IsProblem, point_at}
 use Rattle.cayley.specs.Cells.{Cell, EachPair, IsOf, IsIndependent, IsFurther}
 use Rattle.cayley.specs.Dependencies.{support_at, pair_at}
-use Rattle.cayley.specs.Flips.{rising, lesser, greater}
-use Rattle.cayley.specs.Lives.{BeginsAt}
+use Rattle.cayley.specs.Flips.{lesser, greater}
 use Rattle.cayley.specs.Normals.{Normal, IsNormal, IsLevel, gap}
-use Rattle.cayley.specs.Parents.{ShareOne, DifferInOne, Precedes, IsParent}
+use Rattle.cayley.specs.Parents.{ShareOne, DifferInOne, IsParent}
 use Rattle.cayley.specs.Ties.{IsLevelAt, TwoLevel}
 use Rattle.cayley.proofs.Flipping.FlipNeighbours.{NewPoint, new_point, Flat, both_pairs}
 use Rattle.cayley.proofs.Flipping.FlipScenes.{InRange}
@@ -140,6 +139,13 @@ module _ (p : Problem) (sigma tau : Cell) (well : IsProblem p) where
       let w = m.3.0 in
       let two = h.2.2 in
       let moved : TwoLevel p tau t w = (two.0, two.1, two.2, two.3, two.4, level_by b.0 b.1 t v w h.2.1 m.3.2 two.0 two.1 two.5, level_by b.0 b.1 t v w h.2.1 m.3.2 two.2 two.3 two.6) in
-      n (t, precedes_ends p sigma tau t well m, (w, m.3.1,
-      two_across p sigma tau t w
-      (across t w p.supports sigma tau (both_pairs InRange (IsLevel t w) p.supports sigma a.0 m.3.1.1) (both_pairs InRange (IsLevel t w) p.supports tau b.0 m.3.2.1) m.0) moved))
+      n (
+        t,
+        precedes_ends p sigma tau t well m,
+        (
+          w,
+          m.3.1,
+          two_across p sigma tau t w
+              (across t w p.supports sigma tau (both_pairs InRange (IsLevel t w) p.supports sigma a.0 m.3.1.1) (both_pairs InRange (IsLevel t w) p.supports tau b.0 m.3.2.1) m.0) moved,
+        ),
+      )

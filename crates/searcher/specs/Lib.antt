@@ -7,3 +7,4 @@ pub mod Expansions
 pub mod CellWalls
 pub mod Searches
 pub mod Counts
+pub mod Walks
