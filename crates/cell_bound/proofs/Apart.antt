@@ -15,7 +15,7 @@ size_sum : (u : List ℤ) → Each u (λ k. pos 0 ≤ℤ k) → pos (size u) ≡
 size_sum [] h = refl
 size_sum (x ∷ u) h = let r = size_sum u h.1 in let a = h.0 in omega (arith, ints, r, a)
 
-apart : (x y m : List ℤ) → length x ≡ length m → length y ≡ length m → size (sub x y) ≤ size (sub x m) + size (sub y m)
+pub apart : (x y m : List ℤ) → length x ≡ length m → length y ≡ length m → size (sub x y) ≤ size (sub x m) + size (sub y m)
 apart [] [] [] p q = omega arith
 apart [] [] (m ∷ ms) p q = absurd (omega (arith, p))
 apart [] (y ∷ ys) [] p q = absurd (omega (arith, q))

@@ -1,5 +1,5 @@
 -- Bounds under which no number of a cell's working is too great: of one cell, and of all cells of a problem.
-use Rattle.std.specs.Prelude.{max, ℕ, ◌+◌, ◌*◌, ◌<◌, ◌≤◌, ◌^◌, List, [], ◌∷◌, length, ◌-ℤ◌, unsigned_abs}
+use Rattle.std.specs.Prelude.{◌≡◌, max, ℕ, ◌+◌, ◌*◌, ◌<◌, ◌≤◌, ◌^◌, List, [], ◌∷◌, length, ◌-ℤ◌, unsigned_abs}
 use Rattle.int_vectors.specs.Vectors.{sub}
 use Rattle.int_vectors.specs.Bounds.{size}
 use Rattle.reduced_rows.specs.CellRefusals.{FitsBeyond}
@@ -46,6 +46,10 @@ AreNear f h a c =
 abbrev pub HasRange : ℕ → ℕ → List Point → Type 0
 HasRange f h s = (a c : ℕ) → 1 ≤ a → a ≤ length s → 1 ≤ c → c ≤ length s → AreNear f h (point_at s a) (point_at s c)
 
+-- all points of the support are near the one at a position
+abbrev pub AreAround : ℕ → ℕ → List Point → ℕ → Type 0
+AreAround f h s a = (c : ℕ) → 1 ≤ c → c ≤ length s → AreNear f h (point_at s a) (point_at s c)
+
 -- each support has the range of its place, of numbers that are at least 1
 abbrev pub HaveRanges : (fs hs : List ℕ) → List (List Point) → Type 0
 HaveRanges [] [] [] = Unit {0}
@@ -54,6 +58,10 @@ HaveRanges [] (h ∷ hs) supports = ⊥
 HaveRanges (f ∷ fs) [] supports = ⊥
 HaveRanges (f ∷ fs) (h ∷ hs) [] = ⊥
 HaveRanges (f ∷ fs) (h ∷ hs) (s ∷ supports) = ((1 ≤ f) × (1 ≤ h) × HasRange f h s) × HaveRanges fs hs supports
+
+-- the product of the numbers fs of some ranges of the supports, and the sum of each h by the other fs
+abbrev pub AreBounds : List (List Point) → (front further : ℕ) → Type 0
+AreBounds supports front further = (fs hs : List ℕ) × HaveRanges fs hs supports × (product fs ≡ front) × (sum_over hs fs ≡ further)
 
 -- twice the product of the fs, times that or the sum of each h by the other fs, is below the limit
 abbrev pub FitsByRanges : (fs hs : List ℕ) → Problem → Type 0

@@ -12,3 +12,9 @@ pub mod Living
 pub mod Outcomes
 pub mod Making
 mod RoomAround
+mod LeadingLines
+mod NarrowPoints
+mod FrontEnds
+mod CellLines
+mod PassingLines
+mod RestingLines

@@ -8,3 +8,7 @@ pub mod Places
 pub mod Sides
 pub mod Lives
 pub mod Rooms
+pub mod NarrowLines
+pub mod Fronts
+pub mod Ends
+pub mod Rests

@@ -2,14 +2,20 @@
 //! point is above.
 #![tactic(auto)]
 
+mod endings;
 mod fines;
+mod fronts;
 mod lines;
+mod passing;
+mod rests;
 mod rooms;
+mod slopes;
 mod steps;
 mod sums;
 mod walls;
 
 pub use crossing::{Fine, WallLine};
+pub use endings::{End, end_of};
 pub use inner_normal::MovingNormal;
 pub use reduced_rows::{CellFault, Reduced};
 pub use steps::Steps;

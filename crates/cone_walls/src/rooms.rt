@@ -1,6 +1,6 @@
 ghost use Rattle.std.specs.Prelude.{◌≡◌, ◌<◌, ◌≤◌, ◌^◌, ℕ, IfOk, IsTrue, unsigned_abs};
 ghost use Rattle.int_vectors.specs.Bounds.{Within};
-ghost use Rattle.cone_walls.specs.Rooms.{IsWideRoom, IsNarrowRoom, IsRoomOf, AreCopies};
+ghost use Rattle.cone_walls.specs.Rooms.{IsWideRoom, IsNarrowRoom, IsRoomOf, IsNarrowOf, AreCopies};
 
 use cayley::Problem;
 use inner_normal::MovingNormal;
@@ -46,6 +46,14 @@ fn greater(a: u128, b: u128) -> u128
     ensures b { b ≤ result }
 {
     if a < b { b } else { a }
+}
+
+// Whether all wall lines of a normal of the problem stay far within 64 bits.
+pub(crate) fn is_narrow_of(problem: &Problem, normal: &MovingNormal) -> bool
+    ensures { IsTrue result → IsNarrowOf problem.now normal.now }
+{
+    let most = greater(normal.p.greatest(), normal.q.greatest());
+    is_narrow(normal.den, most, problem.reach())
 }
 
 fn copies_of(alloc: Global, normal: &MovingNormal) -> Result<Copies, AllocError>

@@ -90,7 +90,7 @@ fn checked_line(
 
 // The product of two numbers, where a bound shows that it fits.
 #[inline(always)]
-fn scaled(den: i64, h: i64) -> i64
+pub(crate) fn scaled(den: i64, h: i64) -> i64
     requires { unsigned_abs (den *ℤ h) < 2 ^ 62 }
     ensures { result ≡ den *ℤ h }
 {
@@ -99,7 +99,7 @@ fn scaled(den: i64, h: i64) -> i64
 
 // How much higher c is than a at the time 0.
 #[inline(always)]
-fn rise(a: i64, c: i64) -> i64
+pub(crate) fn rise(a: i64, c: i64) -> i64
     requires a_high { IsHeight a }
     requires c_high { IsHeight c }
     ensures { result ≡ c -ℤ a }
@@ -109,7 +109,7 @@ fn rise(a: i64, c: i64) -> i64
 
 // How much faster c rises than a.
 #[inline(always)]
-fn haste(a: i64, c: i64) -> i64
+pub(crate) fn haste(a: i64, c: i64) -> i64
     requires a_fast { IsSpeed a }
     requires c_fast { IsSpeed c }
     ensures { result ≡ c -ℤ a }

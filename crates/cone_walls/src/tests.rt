@@ -1,9 +1,10 @@
 ghost use Rattle.std.specs.Prelude.{◌≡◌, ◌+◌, ◌<◌, All, IfOk};
 ghost use Rattle.cayley.specs.Cells.{IsOf};
+ghost use Rattle.cayley.specs.Problems.{version1, IsStill};
 ghost use Rattle.crossing.specs.Lines.{FitsLine};
 
-use crate::{CellFault, Steps, WallLine, Walls, walls_of};
-use cayley::{Cell, Point, Problem, Support};
+use crate::{CellFault, End, Steps, WallLine, Walls, end_of, walls_of};
+use cayley::{Cell, Place, Point, Problem, Support};
 use crossing::{Entry, Exit, entry_of, exit_of};
 use int_vectors::IntVec;
 use lex_height::{Lex, LexPart};
@@ -47,7 +48,9 @@ fn support(alloc: Global, given: &[(&[i128], i64, i64)], file: u32) -> Result<Su
     Ok(Support { points, file })
 }
 
-fn squares(alloc: Global) -> Result<Problem, Fail> {
+fn squares(alloc: Global) -> Result<Problem, Fail>
+    ensures { IfOk result (λ p. p.version ≡ version1) }
+{
     let mut supports = Vec::new(alloc);
     for points in [&FIRST, &SECOND] {
         supports.push(support(alloc, points, 4)?)?;
@@ -139,6 +142,42 @@ fn seen_at(alloc: Global, pairs: &[(u32, u32)]) -> Result<Option<Result<View, Ce
     seen_of(alloc, &problem, pairs)
 }
 
+// Where a cell ends, by its normal.
+fn ended<L: Ledger>(
+    alloc: Global,
+    problem: &Problem,
+    cell: &Cell,
+    blank: Blank,
+) -> Result<Option<End>, CellFault>
+    requires ledger { (blank.name ≡ L.name) × (blank.parts ≡ L.parts) × (0 < blank.parts) }
+    requires of { IsOf problem.now cell.now }
+    requires first { problem.now.version ≡ version1 }
+    requires still { IsStill problem.now }
+{
+    let mut steps = Steps::<L>::new(blank);
+    let walls = match walls_of(alloc, problem, cell, &mut steps) {
+        Ok(walls) => walls,
+        Err(fault) => return Err(fault),
+    };
+    Ok(end_of(alloc, problem, cell, &walls.normal, &mut steps))
+}
+
+// Where a cell of the two squares ends.
+fn ended_at(alloc: Global, pairs: &[(u32, u32)]) -> Result<Option<End>, Fail> {
+    let problem = squares(alloc)?;
+    let Some(cell) = Cell::new(alloc, pairs) else {
+        return Ok(None);
+    };
+    if !problem.contains(&cell) || !problem.is_still() {
+        return Ok(None);
+    }
+    match ended::<Brand>(alloc, &problem, &cell, Blank::new(1)) {
+        Ok(end) => Ok(end),
+        Err(CellFault::OutOfMemory) => Err(OutOfMemory.into()),
+        Err(_fault) => Ok(None),
+    }
+}
+
 // The numbers of the lines one after the other.
 fn numbers(alloc: Global, lines: &[WallLine]) -> Result<Vec<i128>, Fail> {
     let mut all = Vec::new(alloc);
@@ -225,6 +264,22 @@ fn ends_of_an_inner_cell(rt: HostRuntime) -> Result<(), Fail> {
     } else {
         assert!(rt; false, "the cell has lines");
     }
+    Ok(())
+}
+
+// At the second support's point 1 the inner cell ends at 5, and the start cell at 1 where the last
+// point of the second square is level; the pairs (1, 2) and (1, 3) of file points never end.
+#[test]
+fn ends_by_the_normal(rt: HostRuntime) -> Result<(), Fail> {
+    let end = |time: i128, support: u32, position: u32| {
+        Some(End::At {
+            time: Lex::of(&Frac::lowest(time, 1).unwrap()),
+            place: Place { support, position },
+        })
+    };
+    assert_eq!(rt; ended_at(rt.alloc(), &[(1, 6), (4, 5)])?, end(5, 2, 1));
+    assert_eq!(rt; ended_at(rt.alloc(), &[(5, 6), (5, 7)])?, end(1, 2, 4));
+    assert_eq!(rt; ended_at(rt.alloc(), &[(1, 2), (1, 3)])?, Some(End::Never));
     Ok(())
 }
 

@@ -1,5 +1,5 @@
 -- what the two ends of a true branch's lines answer
-use Rattle.std.proofs.Common.{◌≡◌, ◌⊎◌, inl, inr, ℕ, suc, ◌-◌, ◌<◌, ◌≤◌, List, [], length, arith, refl, sym, ap, subst, ◌∙◌}
+use Rattle.std.proofs.Common.{◌≡◌, inl, inr, ℕ, ◌-◌, ◌<◌, ◌≤◌, List, length, arith, refl, sym, subst}
 use Rattle.lex_height.specs.Entries.{entries}
 use Rattle.lex_height.specs.Values as lex
 use Rattle.cayley.specs.declared.found.Begin.{Begin}
@@ -10,6 +10,7 @@ use Rattle.cayley.specs.Cells.{Cell, IsOf}
 use Rattle.cayley.specs.Dependencies.{IsFurtherAt}
 use Rattle.cayley.specs.Flips.{IsOnlyLevel}
 use Rattle.cayley.specs.Lives.{AliveLate, EndsAt}
+use Rattle.cayley.specs.Mixed.{IsAlive}
 use Rattle.cayley.specs.Normals.{Normal, IsNormal}
 use Rattle.cayley.proofs.Flipping.Places.{pairs_long, further_bound}
 use Rattle.cayley.proofs.OneCell.CellRows.{InRange}
@@ -21,6 +22,8 @@ use Rattle.crossing.specs.declared.exit.Exit.TheVariants as exit
 use Rattle.crossing.specs.Leading.{nth}
 use Rattle.crossing.specs.Entries.{IsEntry}
 use Rattle.crossing.specs.Exits.{IsExit}
+use Rattle.cone_walls.specs.Places.{AreOfFurtherPoints}
+use Rattle.cone_walls.specs.Sides.{TellSides}
 use Rattle.inner_normal.specs.Coefficients.{difference, FitsCoefficients}
 use Rattle.inner_normal.specs.Inverses.{Inverse, IsInverseOf}
 use Rattle.inner_normal.specs.declared.moving.MovingNormal.{MovingNormal}
@@ -30,6 +33,7 @@ use Rattle.searcher.specs.CellWalls.{AreLinesOf, FitCircuitsBy, IsSaid, tie_betw
 use Rattle.searcher.specs.Ends.{IsTiedAtBegin}
 use Rattle.searcher.specs.Expansions.{IsOfKind, inner, IsSettled, IsTied, IsCause}
 use Rattle.searcher.proofs.LinePoints.{further_of}
+use Rattle.searcher.proofs.TwoEnds.{some_alive}
 use Rattle.searcher.proofs.TiedEnds.{begin_tied, begin_alone, begin_never, end_tied, end_alone, end_wall, end_never, end_flat}
 
 -- not two lines
@@ -64,66 +68,62 @@ module _ (p : Problem) (b : Branch) (well : IsProblem p) (normal : MovingNormal)
       let h = begin_tied p b.cell well lines w.places w.sides w.life x ix u first second ie in
       ((s, inl h.0), inl h.1)
 
-  module _ (e : Entry) (ie : IsEntry lines e) (said : IsSaid b.begin e) where
-    begin_not : IsNotTied e → (x : Exit) → IsExit lines x → ¬ (IsTiedAtBegin p b.cell)
-    begin_not n x ix = untied e ie said n
-      where
-        untied : (e : Entry) → IsEntry lines e → IsSaid b.begin e → IsNotTied e → ¬ (IsTiedAtBegin p b.cell)
-        untied entry.Always i h n = begin_never p b.cell well lines w.places w.sides w.life x ix i
-        untied (entry.At u which) i h n = begin_alone p b.cell well lines w.places w.sides w.life x ix u which i
-        untied (entry.Tied u first second) i h n = absurd n
-        untied entry.Dead i h n = absurd (never_dead b.begin h)
+  pub begin_not : (e : Entry) → IsEntry lines e → IsSaid b.begin e → IsNotTied e → (x : Exit) → IsExit lines x → ¬ (IsTiedAtBegin p b.cell)
+  begin_not entry.Always i h n x ix = begin_never p b.cell well lines w.places w.sides w.life x ix i
+  begin_not (entry.At u which) i h n x ix = begin_alone p b.cell well lines w.places w.sides w.life x ix u which i
+  begin_not (entry.Tied u first second) i h n x ix = absurd n
+  begin_not entry.Dead i h n x ix = absurd (never_dead b.begin h)
 
-    pub exit_cause : (u : lex.Value) (first second : ℕ) → IsNotTied e → IsExit lines (exit.Tied u first second) → IsCause p b (cause.Tie (tie_between b.cell lines u first second))
-    exit_cause u first second n ix =
-        let h = end_tied p b.cell well lines w.places w.sides w.life b.begin e ie said u first second ix in
-        ((s, inr h.0), inr (begin_not n (exit.Tied u first second) ix, h.1))
+-- a true branch whose cell isn't tied where it begins
+module _ (p : Problem) (b : Branch) (well : IsProblem p) (lines : List WallLine) (places : AreOfFurtherPoints p b.cell lines) (sides : TellSides p b.cell lines) (s : IsSettled p b) where
+  some_time : (t : Time) × IsAlive p b.cell t
+  some_time = some_alive p b.cell b.begin s.2
 
-    pub inner_kind : (u : lex.Value) (which : ℕ) → IsNotTied e → IsExit lines (exit.At u which) → IsOfKind p b inner
-    inner_kind u which n ix =
-        let h = end_alone p b.cell well lines w.places w.sides w.life b.begin e ie said u which ix in
-        (s, (λ t. elim t [ inl a ↦ begin_not n (exit.At u which) ix a | inr a ↦ h.0 a ]), h.1)
+  pub never_flat : (which : ℕ) → IsExit lines (exit.Flat which) → ⊥
+  never_flat which ix = end_flat p b.cell well lines places sides some_time.0 some_time.1 which ix
 
-    pub never_ends : IsNotTied e → IsExit lines exit.Never → ¬ (IsTied p b.cell) × AliveLate p b.cell
-    never_ends n ix =
-        let h = end_never p b.cell well lines w.places w.sides w.life b.begin e ie said ix in
-        ((λ t. elim t [ inl a ↦ begin_not n exit.Never ix a | inr a ↦ h.0 a ]), h.1)
+  module _ (n : ¬ (IsTiedAtBegin p b.cell)) where
+    pub exit_cause : (u : lex.Value) (first second : ℕ) → IsExit lines (exit.Tied u first second) → IsCause p b (cause.Tie (tie_between b.cell lines u first second))
+    exit_cause u first second ix =
+        let h = end_tied p b.cell well lines places sides some_time.0 some_time.1 u first second ix in
+        ((s, inr h.0), inr (n, h.1))
 
-    pub never_flat : (which : ℕ) → IsExit lines (exit.Flat which) → ⊥
-    never_flat which ix = end_flat p b.cell well lines w.places w.sides w.life b.begin e ie said which ix
+    pub inner_kind : (u : lex.Value) (which : ℕ) → IsExit lines (exit.At u which) → IsOfKind p b inner
+    inner_kind u which ix =
+        let h = end_alone p b.cell well lines places sides some_time.0 some_time.1 u which ix in
+        (s, (λ t. elim t [ inl a ↦ n a | inr a ↦ h.0 a ]), h.1)
 
-    -- ---- the line of the wall
-    module _ (u : lex.Value) (which : ℕ) (ix : IsExit lines (exit.At u which)) where
-      pub inside : which - 1 < length lines
-      inside = let a = ix.3.0.0 in let c = ix.3.0.1 in omega (arith, a, c)
+    pub never_ends : IsExit lines exit.Never → ¬ (IsTied p b.cell) × AliveLate p b.cell
+    never_ends ix =
+        let h = end_never p b.cell well lines places sides some_time.0 some_time.1 ix in
+        ((λ t. elim t [ inl a ↦ n a | inr a ↦ h.0 a ]), h.1)
 
-      pub not_empty : ¬ (lines ≡ [])
-      not_empty e = let a = inside in let c = ap length e in omega (arith, a, c)
+  -- ---- the line of the wall
+  module _ (u : lex.Value) (which : ℕ) (ix : IsExit lines (exit.At u which)) where
+    pub inside : which - 1 < length lines
+    inside = let a = ix.3.0.0 in let c = ix.3.0.1 in omega (arith, a, c)
 
-      module _ (l : WallLine) (is : l ≡ nth lines (which - 1)) where
-        point : (1 ≤ l.support) × IsFurtherAt p b.cell (l.support - 1) l.position
-        point = subst (λ (k : WallLine). (1 ≤ k.support) × IsFurtherAt p b.cell (k.support - 1) k.position) (sym is)
-            (further_of p b.cell well w.moving.of w.moving.independent lines w.places w.sides (which - 1) inside)
+    module _ (l : WallLine) (is : l ≡ nth lines (which - 1)) where
+      point : (1 ≤ l.support) × IsFurtherAt p b.cell (l.support - 1) l.position
+      point = subst (λ (k : WallLine). (1 ≤ k.support) × IsFurtherAt p b.cell (k.support - 1) k.position) (sym is)
+          (further_of p b.cell well some_time.1.0 some_time.1.1 lines places sides (which - 1) inside)
 
-        pub wall_point : (1 ≤ l.support) × (l.support ≤ p.dimension) × IsFurtherAt p b.cell (l.support - 1) l.position
-        wall_point =
-            let a = further_bound p.supports b.cell (l.support - 1) l.position (pairs_long p.supports b.cell InRange w.moving.of) point.1 in
-            let c = pairs_long p.supports b.cell InRange w.moving.of in
-            let d = well.supports in
-            let f = point.0 in
-            (f, omega (arith, a, c, d, f), point.1)
+      pub wall_point : (1 ≤ l.support) × (l.support ≤ p.dimension) × IsFurtherAt p b.cell (l.support - 1) l.position
+      wall_point =
+          let c = pairs_long p.supports b.cell InRange some_time.1.0 in
+          let a = further_bound p.supports b.cell (l.support - 1) l.position c point.1 in
+          let d = well.supports in
+          let f = point.0 in
+          (f, omega (arith, a, c, d, f), point.1)
 
-        pub wall_fits : (inverse : Inverse) → FitCircuitsBy p b.cell inverse → FitsCoefficients (l.support - 1) inverse (difference p b.cell (l.support - 1) l.position)
-        wall_fits inverse h = h.1 (l.support - 1) l.position point.1
+      pub wall_end : (t : Time) × (t.entries ≡ entries u.parts) × (t.over ≡ u.den) × EndsAt p b.cell t
+          × ((v : Normal) × IsNormal p b.cell t v × IsOnlyLevel p b.cell t v (l.support - 1) l.position)
+      wall_end =
+          subst (λ (k : WallLine). (t : Time) × (t.entries ≡ entries u.parts) × (t.over ≡ u.den) × EndsAt p b.cell t
+          × ((v : Normal) × IsNormal p b.cell t v × IsOnlyLevel p b.cell t v (k.support - 1) k.position)) (sym is)
+          (end_wall p b.cell well lines places sides some_time.0 some_time.1 u which ix)
 
-        pub wall_end : (t : Time) × (t.entries ≡ entries u.parts) × (t.over ≡ u.den) × EndsAt p b.cell t
-            × ((v : Normal) × IsNormal p b.cell t v × IsOnlyLevel p b.cell t v (l.support - 1) l.position)
-        wall_end =
-            subst (λ (k : WallLine). (t : Time) × (t.entries ≡ entries u.parts) × (t.over ≡ u.den) × EndsAt p b.cell t
-            × ((v : Normal) × IsNormal p b.cell t v × IsOnlyLevel p b.cell t v (k.support - 1) k.position)) (sym is)
-            (end_wall p b.cell well lines w.places w.sides w.life b.begin e ie said u which ix)
-
-        -- what the flips at the wall ask for, of a cell that is the branch's
-        pub kept_by : (inverse : Inverse) → FitCircuitsBy p b.cell inverse → (cell : Cell) → b.cell ≡ cell → IsAtWall p cell u l inverse
-        kept_by inverse h cell q = subst (λ z. IsAtWall p z u l inverse) q
-            (record { cell = w.moving.of; point = wall_point; inverse = h.0; fits = wall_fits inverse h; wall = wall_end })
+      -- what the flips at the wall ask for, of a cell that is the branch's
+      pub kept_by : (inverse : Inverse) → FitCircuitsBy p b.cell inverse → (cell : Cell) → b.cell ≡ cell → IsAtWall p cell u l inverse
+      kept_by inverse h cell q = subst (λ z. IsAtWall p z u l inverse) q
+          (record { cell = some_time.1.0; point = wall_point; inverse = h.0; fits = h.1 (l.support - 1) l.position point.1; wall = wall_end })

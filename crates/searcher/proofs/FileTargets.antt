@@ -1,5 +1,5 @@
 -- a cell of file points that is alive is alive among the file points alone, and its normal rests
-use Rattle.std.proofs.Common.{◌≡◌, ℕ, ◌<◌, ◌≤◌, List, [], ◌∷◌, length, arith, refl, sym, ap, ap₂, subst, ◌∙◌, inl, inr}
+use Rattle.std.proofs.Common.{◌≡◌, ℕ, ◌<◌, ◌≤◌, List, [], ◌∷◌, length, arith, sym, ap, ap₂, ◌∙◌}
 use Rattle.std.proofs.lemmas.Int.{ints}
 use Rattle.std.proofs.Math.IntN.{ℤ, pos, ◌+ℤ◌, ◌-ℤ◌, ◌*ℤ◌, neg_ℤ, *ℤ-zero}
 use Rattle.wide_int.proofs.Ring.{as_D, Ds, same_D}
@@ -9,7 +9,7 @@ use Rattle.cayley.specs.Problems.{Point, Problem, IsProblem, IsStill, point_at, 
 use Rattle.cayley.specs.Cells.{Cell, EachPair, IsOf, IsIndependent, IsFurther}
 use Rattle.cayley.specs.Normals.{Normal, gap, IsNormal, AllAbove}
 use Rattle.cayley.specs.Mixed.{IsAlive, IsMixedCell}
-use Rattle.cayley.specs.Valid.{IsMoving, IsValidProblem}
+use Rattle.cayley.specs.Valid.{IsValidProblem}
 use Rattle.cayley.proofs.Algebra.Kernel.{length-map}
 use Rattle.cayley.proofs.Algebra.RowDependencies.{zero-at}
 use Rattle.cayley.proofs.Algebra.RowNormals.{at-zero}

@@ -1,12 +1,11 @@
 -- the whole working of a cell from its parts
-use Rattle.std.proofs.Common.{◌≡◌, ◌∙◌, ℕ, List, ℤ, Result, Ok, Err, refl, sym, subst}
-use Rattle.reduced_rows.specs.CellRefusals.{FitsBeyond, IsEliminated}
+use Rattle.std.proofs.Common.{◌≡◌, ◌∙◌, List, ℤ, Result, Ok, Err, refl, sym, subst}
+use Rattle.reduced_rows.specs.CellRefusals.{IsEliminated}
 use Rattle.reduced_rows.specs.Steps.{elimination, FitsElimination}
 use Rattle.cayley.specs.Problems.{Problem}
 use Rattle.cayley.specs.Cells.{Cell}
-use Rattle.cayley.specs.Dependencies.{IsFurtherAt}
 use Rattle.cayley.specs.Rows.{edge_rows}
-use Rattle.cone_walls.specs.Workings.{FitsRest, FitsWallWorking}
+use Rattle.cone_walls.specs.Workings.{FitsWallWorking}
 use Rattle.searcher.specs.Workings.{FitAllCircuits, FitsWorking}
 
 abbrev Makes : List (List ℤ) → Result (List (List ℤ)) (List ℤ) → Type 0

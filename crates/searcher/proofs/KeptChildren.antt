@@ -6,7 +6,7 @@ use Rattle.std.specs.Prelude.{◌≤ℤ◌, slice_index_or}
 use Rattle.lex_height.specs.Entries.{entries}
 use Rattle.lex_height.specs.Values as lex
 use Rattle.cayley.specs.declared.found.Sign.{Sign}
-use Rattle.cayley.specs.declared.found.Sign.TheVariants.{Minus, Plus}
+use Rattle.cayley.specs.declared.found.Sign.TheVariants.{Minus, Zero, Plus}
 use Rattle.cayley.specs.Times.{Time}
 use Rattle.cayley.specs.Problems.{Problem, IsProblem}
 use Rattle.cayley.specs.Cells.{Cell, IsSorted, IsListOf}
@@ -51,6 +51,22 @@ one_minus p cell j c numbers l d h =
     let s = sum_at numbers.pairs j numbers.last (omega (arith, l, count)) d.1.1.1 in
     let a = not_minus (number_at numbers.pairs j).0 h.0 in
     let b = not_minus (number_at numbers.pairs j).1 h.1 in
+    let g = d.0 in
+    absurd (omega (arith, ints, s, a, b, g))
+
+-- the same of the signs alone
+not_negative : (s : Sign) (k : ℤ) → HasSign s k → s ≢ Minus → pos 0 ≤ℤ k
+not_negative Minus k h n = absurd (n refl)
+not_negative Zero k h n = omega (arith, ints, h)
+not_negative Plus k h n = omega (arith, ints, h)
+
+pub some_minus : (p : Problem) (cell : Cell) (j c : ℕ) (signs : Sign × Sign) → j < length cell → AreSignsAt p cell j c signs → ¬ ((signs.0 ≢ Minus) × (signs.1 ≢ Minus))
+some_minus p cell j c signs l h n =
+    let d = h.1 in
+    let count = d.1.0 in
+    let s = sum_at h.0.pairs j h.0.last (omega (arith, l, count)) d.1.1.1 in
+    let a = not_negative signs.0 (number_at h.0.pairs j).0 h.2.0 n.0 in
+    let b = not_negative signs.1 (number_at h.0.pairs j).1 h.2.1 n.1 in
     let g = d.0 in
     absurd (omega (arith, ints, s, a, b, g))
 

@@ -2,6 +2,7 @@ mod AllCircuits
 mod KeptChildren
 mod ZeroLines
 mod LinePoints
+mod LaterLines
 mod TwoEnds
 mod OneAnswer
 mod ShownEnds
@@ -22,3 +23,7 @@ pub mod Orders
 pub mod Turns
 pub mod Results
 pub mod CountedShares
+mod UntiedChildren
+mod MadeEnds
+mod LastCells
+mod MadeBranches

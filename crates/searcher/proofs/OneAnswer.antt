@@ -1,18 +1,13 @@
 -- of each branch there is one answer, so each comes exactly where its cause is
-use Rattle.std.proofs.Common.{◌≡◌, ◌⊎◌, ◌↔◌, inl, inr, refl, sym, subst, ◌∙◌}
-use Rattle.std.specs.Prelude.{Result, Ok, Err, MatchResult, IfErr, Option, Some, None, MatchOption}
-use Rattle.cayley.specs.Problems.{Problem, IsProblem}
-use Rattle.cayley.specs.Cells.{Cell}
-use Rattle.cayley.specs.Times.{Time}
-use Rattle.cayley.specs.Mixed.{IsAlive}
-use Rattle.cayley.specs.Shares.{IsTrueBranch}
+use Rattle.std.proofs.Common.{◌≡◌, ◌↔◌, inl, inr, refl, sym, subst}
+use Rattle.std.specs.Prelude.{Result, Ok, Err, MatchResult}
+use Rattle.cayley.specs.Problems.{Problem}
 use Rattle.searcher.specs.declared.branches.Branch.{Branch}
 use Rattle.searcher.specs.declared.expansions.Expansion.{Expansion}
 use Rattle.searcher.specs.declared.expansions.Expansion.TheVariants.{Inner, Target, Endless, Stranger}
 use Rattle.searcher.specs.declared.expansions.Halt.{Halt}
 use Rattle.searcher.specs.declared.expansions.HaltCause.{HaltCause}
 use Rattle.searcher.specs.declared.expansions.HaltCause.TheVariants.{Tie, Overflow, OutOfMemory}
-use Rattle.searcher.specs.Branches.{branch_of}
 use Rattle.searcher.specs.Expansions.{Kind, stranger, overflow, tie, target, endless, inner, IsOfKind, IsSettled, kind_of, IsAnswer, HasAnswer, IsExpansion, IsCause, IsHalt, HadMemory, IsCauseOf}
 
 module _ (p : Problem) (b : Branch) where

@@ -1,5 +1,5 @@
 -- what the working of a cell and the entry of its lines say of a branch
-use Rattle.std.proofs.Common.{◌≡◌, ◌⊎◌, inl, inr, ℕ, List, [], ℤ, refl, sym, subst}
+use Rattle.std.proofs.Common.{◌≡◌, inr, List, [], ℤ, sym, subst}
 use Rattle.std.specs.Prelude.{Option, Some, None, MatchOption}
 use Rattle.reduced_rows.specs.CellRefusals.{IsEliminated}
 use Rattle.reduced_rows.specs.Steps.{elimination, FitsElimination}

@@ -1,18 +1,16 @@
 -- the tie that is named at an end is one that is shown there
-use Rattle.std.proofs.Common.{◌≡◌, ◌⊎◌, inl, inr, ◌-◌, sym, subst, refl}
-use Rattle.std.specs.Prelude.{Result, Ok, Err, MatchResult, IfErr, Option, Some, None}
+use Rattle.std.proofs.Common.{inl, inr, sym, subst}
+use Rattle.std.specs.Prelude.{Result, Ok, Err, MatchResult, IfErr, Some}
 use Rattle.std.specs.Option.{option_map}
 use Rattle.cayley.specs.declared.found.TieProof.{TieProof}
 use Rattle.cayley.specs.Times.{Time}
 use Rattle.cayley.specs.Problems.{Problem, IsProblem}
 use Rattle.cayley.specs.Cells.{Cell, IsOf, IsIndependent}
 use Rattle.cayley.specs.Normals.{Normal, IsNormal, NoneBelow}
-use Rattle.cayley.specs.Mixed.{IsAlive}
 use Rattle.cayley.specs.Lives.{BeginsAt, EndsAt}
 use Rattle.cayley.specs.Ties.{IsTieFree}
-use Rattle.cayley.specs.StoredTies.{Spot, AreLevel, ShowsTie}
-use Rattle.cayley.specs.NamedTies.{IsLevelThen, AreFirstTwo}
-use Rattle.cayley.specs.TieProofs.{spot_of, IsTimeOf, IsTieProofAtEnd}
+use Rattle.cayley.specs.StoredTies.{AreLevel, ShowsTie}
+use Rattle.cayley.specs.TieProofs.{spot_of, IsTieProofAtEnd}
 use Rattle.cayley.proofs.OneCell.CellNormals.{a_normal}
 use Rattle.cayley.proofs.Life.Decisions.{alive_after, alive_before}
 use Rattle.cayley.proofs.Life.Levels.{after_none_below, before_none_below}

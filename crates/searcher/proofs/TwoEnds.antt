@@ -1,5 +1,5 @@
 -- where a cell begins and ends, by the entry and the exit of its lines
-use Rattle.std.proofs.Common.{◌≡◌, ◌⊎◌, ◌↔◌, inl, inr, ℕ, List, refl, sym, subst, ℤ, pos, neg_ℤ, ◌<ℤ◌}
+use Rattle.std.proofs.Common.{◌≡◌, ◌↔◌, inl, ℕ, List, refl, sym, subst, pos, neg_ℤ, ◌<ℤ◌}
 use Rattle.int_vectors.specs.Vectors.{IsZero, add, scale}
 use Rattle.lex_height.specs.Entries.{entries}
 use Rattle.lex_height.specs.Values as lex
@@ -8,11 +8,11 @@ use Rattle.cayley.specs.declared.found.Begin.TheVariants as begin
 use Rattle.cayley.specs.Begins.{begin_of}
 use Rattle.cayley.specs.Times.{Time, IsBefore, IsSameTime}
 use Rattle.cayley.specs.Problems.{Problem, IsProblem}
-use Rattle.cayley.specs.Cells.{Cell, IsOf, IsIndependent}
+use Rattle.cayley.specs.Cells.{Cell}
 use Rattle.cayley.specs.Mixed.{IsAlive}
 use Rattle.cayley.specs.Lives.{AliveEarly, AliveLate, BeginsAt, EndsAt, BeginsAs}
 use Rattle.cayley.proofs.Order.Lines.{before_trans}
-use Rattle.cayley.proofs.Order.Times.{sooner, never_before, same_before, before_same, same_sym}
+use Rattle.cayley.proofs.Order.Times.{sooner, never_before, same_before, before_same}
 use Rattle.cayley.proofs.Life.Decisions.{alive_after}
 use Rattle.cayley.proofs.Life.LifeLaws.{once_law}
 use Rattle.crossing.specs.declared.line.WallLine.{WallLine}

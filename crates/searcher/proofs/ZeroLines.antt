@@ -1,8 +1,8 @@
 -- lines that are zero before or after a time at which all lines are positive
-use Rattle.std.proofs.Common.{◌≡◌, inl, inr, ℕ, ◌<◌, List, length, arith, ℤ, pos, neg_ℤ, ◌<ℤ◌}
+use Rattle.std.proofs.Common.{◌≡◌, inl, inr, ℕ, ◌<◌, List, length, arith, ℤ, pos, ◌<ℤ◌}
 use Rattle.std.proofs.lemmas.Int.{ints}
 use Rattle.wide_int.proofs.Order.{sign_cases}
-use Rattle.int_vectors.specs.Vectors.{IsZero, IsPositive, at}
+use Rattle.int_vectors.specs.Vectors.{IsZero, at}
 use Rattle.lex_height.specs.Order.{IsSame}
 use Rattle.lex_height.proofs.Comparing.{same_same, same_back, same_turned, less_not_back}
 use Rattle.cayley.specs.Times.{Time, IsBefore, IsSameTime}
@@ -11,7 +11,7 @@ use Rattle.crossing.specs.declared.line.WallLine.{WallLine}
 use Rattle.crossing.specs.declared.leaders.Way.{Way}
 use Rattle.crossing.specs.declared.leaders.Way.TheVariants.{Falling, Rising}
 use Rattle.crossing.specs.Leading.{nth, start, steep, Goes}
-use Rattle.crossing.specs.Lines.{value, IsEarlier, ArePositive}
+use Rattle.crossing.specs.Lines.{value, ArePositive}
 use Rattle.crossing.specs.Places.{origin}
 use Rattle.crossing.proofs.Lists.{either, earlier_less, less_earlier, not_zero}
 use Rattle.crossing.proofs.Values.{turn, zero_ratio, ratio_zero, zero_later, turned_less, level_start, level_value}

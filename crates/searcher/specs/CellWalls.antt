@@ -1,5 +1,5 @@
 -- What the walls of a cell tell, and what is read off its lines, for the inner functions; no public clause cites this.
-use Rattle.std.specs.Prelude.{◌≡◌, ◌↔◌, ℕ, ◌-◌, List, ℤ, All, Option, None, Some, MatchOption, slice_index_or}
+use Rattle.std.specs.Prelude.{◌≡◌, ◌↔◌, ℕ, ◌-◌, List, All, Option, Some, MatchOption, slice_index_or}
 use Rattle.lex_height.specs.Values as lex
 use Rattle.cayley.specs.declared.found.Begin.{Begin}
 use Rattle.cayley.specs.declared.found.Begin.TheVariants as begin

@@ -8,3 +8,4 @@ pub mod CellWalls
 pub mod Searches
 pub mod Counts
 pub mod Passes
+pub mod Walks

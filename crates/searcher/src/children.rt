@@ -82,7 +82,7 @@ fn kept_among(
 
 // The signs at the pair of the circuit of the cell and this further point. The numbers fit, so that
 // it is refused for want of memory alone.
-fn signs_at(
+pub(crate) fn signs_at(
     alloc: Global,
     problem: &Problem,
     cell: &Cell,
@@ -107,6 +107,28 @@ fn signs_at(
     }
 }
 
+// The children of the cell at the wall of one further point, where it ends, by the signs of its circuit.
+pub(crate) fn kept_by(
+    problem: &Problem,
+    cell: &Cell,
+    signs: Signs,
+    support: u32,
+    position: u32,
+    time: Lex,
+) -> Children
+    requires cell { IsOf problem.now cell.now }
+    requires point { (1 ≤ support) × (support ≤ problem.now.dimension) × IsFurtherAt problem.now cell.now (support - 1) position }
+    requires signs { AreSignsAt problem.now cell.now (support - 1) position signs }
+    requires wall { (t : Time) × (t.entries ≡ entries time.parts) × (t.over ≡ time.den) × EndsAt problem.now cell.now t
+        × ((v : Normal) × IsNormal problem.now cell.now t v × IsOnlyLevel problem.now cell.now t v (support - 1) position) }
+    ensures { IsChildren problem.now cell.now (branches_of (children_of result)) }
+{
+    // A problem is valid by its type, as its readers tell.
+    let _dim = problem.dim();
+    let cells = successors(cell, support, position, &signs);
+    kept_among(cell, cells, support, position, &signs, time)
+}
+
 // The children of the cell at the wall of one further point, where it ends.
 pub(crate) fn kept_children(
     alloc: Global,
@@ -125,9 +147,6 @@ pub(crate) fn kept_children(
         × ((v : Normal) × IsNormal problem.now cell.now t v × IsOnlyLevel problem.now cell.now t v (support - 1) position) }
     ensures { IfOk result (λ kids. IsChildren problem.now cell.now (branches_of (children_of kids))) }
 {
-    // A problem is valid by its type, as its readers tell.
-    let _dim = problem.dim();
     let signs = signs_at(alloc, problem, cell, inverse, support, position)?;
-    let cells = successors(cell, support, position, &signs);
-    Ok(kept_among(cell, cells, support, position, &signs, time))
+    Ok(kept_by(problem, cell, signs, support, position, time))
 }

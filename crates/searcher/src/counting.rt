@@ -7,8 +7,9 @@ ghost use Rattle.searcher.specs.Searches.{IsCount, opened, found_in, top};
 ghost use Rattle.searcher.specs.Counts.{IsCounted, IsBehind, CountsShare, CountsSize};
 
 use crate::branches::Branch;
-use crate::expansions::{Expansion, HaltCause, expand};
+use crate::expansions::{Expansion, HaltCause};
 use crate::searching::{count_after, put_children};
+use crate::walks::Walk;
 use cayley::Problem;
 use cone_walls::Steps;
 use std::alloc::Global;
@@ -60,14 +61,16 @@ pub fn count_alone<L: Ledger>(
 {
     let _dim = problem.dim();
     let mut left = branches;
+    let mut walk = Walk::begin(problem, left.len());
     let mut cells = 0;
     let mut solves = 0;
     while let Some(branch) = left.pop() {
+        let count = left.len();
         if left.reserve(2).is_err() {
             return Err(HaltCause::OutOfMemory);
         }
         solves = count_after(problem, &branch, solves);
-        let expansion = match expand(alloc, problem, branch, steps) {
+        let expansion = match walk.expansion_of(alloc, problem, branch, count, steps) {
             Ok(expansion) => expansion,
             Err(halt) => return Err(halt.cause),
         };

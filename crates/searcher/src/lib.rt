@@ -7,12 +7,15 @@ mod branches;
 mod children;
 mod circuits;
 mod counting;
+mod endings;
 mod expansions;
+mod lasts;
 mod passing;
 mod searching;
 mod settling;
 mod targets;
 mod ties;
+mod walks;
 
 pub use branches::Branch;
 pub use cayley::{Begin, FoundCell};
@@ -25,3 +28,5 @@ pub use searching::{Found, Stopped, search_alone};
 mod search_tests;
 #[cfg(test)]
 mod tests;
+#[cfg(test)]
+mod walk_tests;

@@ -79,7 +79,11 @@ const TWO_LEVEL_POINTS: [(&[i128], i64, i64); 4] = [
 
 const ONE_POINT: [(&[i128], i64, i64); 3] = [(&[5], 7, 0), (&[5], 0, 1), (&[6], 0, 1)];
 
-fn support(alloc: Global, given: &[(&[i128], i64, i64)], file: u32) -> Result<Support, Fail> {
+pub(crate) fn support(
+    alloc: Global,
+    given: &[(&[i128], i64, i64)],
+    file: u32,
+) -> Result<Support, Fail> {
     let mut points = Vec::new(alloc);
     for (coords, base, speed) in given {
         let coords = IntVec::from_slice(alloc, coords)?;
@@ -110,7 +114,7 @@ fn plane(
     Ok(Problem::new(alloc, 2, supports)?)
 }
 
-fn branch(alloc: Global, pairs: &[(u32, u32)], begin: Begin) -> Result<Branch, Fail> {
+pub(crate) fn branch(alloc: Global, pairs: &[(u32, u32)], begin: Begin) -> Result<Branch, Fail> {
     match Cell::new(alloc, pairs) {
         Some(cell) => Ok(Branch::new(cell, begin)),
         None => Err(OutOfMemory.into()),
@@ -132,7 +136,7 @@ fn just(alloc: Global, branch: Branch) -> Result<Vec<Branch>, Fail> {
 }
 
 // The positions of the cells one after the other.
-fn positions(alloc: Global, found: &[FoundCell]) -> Result<Vec<u32>, Fail> {
+pub(crate) fn positions(alloc: Global, found: &[FoundCell]) -> Result<Vec<u32>, Fail> {
     let mut all = Vec::new(alloc);
     for one in found {
         for (a, b) in one.cell.pairs() {
@@ -144,7 +148,7 @@ fn positions(alloc: Global, found: &[FoundCell]) -> Result<Vec<u32>, Fail> {
 }
 
 // The normals of the cells one after the other, each with its denominator behind it.
-fn normals(alloc: Global, found: &[FoundCell]) -> Result<Vec<i128>, Fail> {
+pub(crate) fn normals(alloc: Global, found: &[FoundCell]) -> Result<Vec<i128>, Fail> {
     let mut all = Vec::new(alloc);
     for one in found {
         all.extend_from_slice(one.normal.v.as_slice())?;
@@ -206,7 +210,11 @@ fn search(
 }
 
 // What a search finds that isn't halted.
-fn found(alloc: Global, problem: &Problem, branches: Vec<Branch>) -> Result<Found, Fail> {
+pub(crate) fn found(
+    alloc: Global,
+    problem: &Problem,
+    branches: Vec<Branch>,
+) -> Result<Found, Fail> {
     match search(alloc, problem, branches)? {
         Ok(found) => Ok(found),
         Err(_stopped) => Err(OutOfMemory.into()),

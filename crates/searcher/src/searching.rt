@@ -9,7 +9,8 @@ ghost use Rattle.searcher.specs.Expansions.{ShowsTieAtEnd, HasNoTie};
 ghost use Rattle.searcher.specs.Searches.{IsFound, IsStopped, IsCount, FindsShare, FindsSize, NeverFalls, cells_of, opened, found_in, top};
 
 use crate::branches::Branch;
-use crate::expansions::{Children, Expansion, HaltCause, expand};
+use crate::expansions::{Children, Expansion, HaltCause};
+use crate::walks::Walk;
 use cayley::{FoundCell, Problem};
 use cone_walls::Steps;
 use std::alloc::Global;
@@ -35,7 +36,7 @@ pub struct Stopped {
 }
 
 // Room for two branches and a cell. The branches keep the room that they have.
-fn has_room(left: &mut Vec<Branch>, cells: &mut Vec<FoundCell>) -> bool
+pub(crate) fn has_room(left: &mut Vec<Branch>, cells: &mut Vec<FoundCell>) -> bool
     ensures left { left.new.items ≡ left.old.items }
     ensures cells { cells.new.items ≡ cells.old.items }
     ensures kept { (vec_len left.new ≡ vec_len left.old) × (vec_capacity left.old ≤ vec_capacity left.new) }
@@ -62,7 +63,7 @@ pub fn put_children(left: &mut Vec<Branch>, children: Children)
 }
 
 // Puts the children among the branches and a mixed cell among the cells.
-fn put(left: &mut Vec<Branch>, cells: &mut Vec<FoundCell>, expansion: Expansion)
+pub(crate) fn put(left: &mut Vec<Branch>, cells: &mut Vec<FoundCell>, expansion: Expansion)
     requires branches { vec_len left.old + 2 ≤ vec_capacity left.old }
     requires cell { vec_len cells.old + 1 ≤ vec_capacity cells.old }
     ensures left { left.new.items ≡ left.old.items ++ opened expansion }
@@ -125,9 +126,11 @@ pub fn search_alone<L: Ledger>(
 {
     let _dim = problem.dim();
     let mut left = branches;
+    let mut walk = Walk::begin(problem, left.len());
     let mut cells = Vec::new(alloc);
     let mut solves = 0;
     while let Some(branch) = left.pop() {
+        let count = left.len();
         if !has_room(&mut left, &mut cells) {
             let _ = left.push(branch);
             return Err(Stopped {
@@ -137,7 +140,7 @@ pub fn search_alone<L: Ledger>(
             });
         }
         solves = count_after(problem, &branch, solves);
-        let expansion = match expand(alloc, problem, branch, steps) {
+        let expansion = match walk.expansion_of(alloc, problem, branch, count, steps) {
             Ok(expansion) => expansion,
             Err(halt) => {
                 let _ = left.push(halt.branch);

@@ -1,9 +1,11 @@
-use Rattle.std.proofs.Common.{rules, ◌≡◌, ◌<◌, [], ◌∷◌, ◌++◌, ap, sym, subst, ◌∙◌}
+use Rattle.std.proofs.Common.{rules, drop, ◌≡◌, ◌<◌, [], ◌++◌, ap, sym, subst, ◌∙◌}
 use Rattle.std.specs.Prelude.{sum_by}
 use Rattle.int_vectors.specs.Vectors.{Each}
 use Rattle.cayley.proofs.Searching.Steps.{Counts, weight, counts_begin}
 use Rattle.searcher.specs.Branches.{branches_of}
 use Rattle.searcher.specs.Searches.{IsLeft, opened, top}
+use Rattle.searcher.specs.Walks.{IsMade}
+use Rattle.searcher.proofs.MadeBranches.{given_made, last_made, turn_made}
 use Rattle.searcher.proofs.Sizes.{size_in, size_in_gives}
 use Rattle.searcher.proofs.Turns.{is_still_problem, well_of, turn_counts, turn_falls, turn_left, turn_count, left_begin, count_begin, count_few}
 use Rattle.searcher.proofs.Results.{cause_left, all_counted}
@@ -16,6 +18,8 @@ loop-branch-init g c = record {
   counts = λ size cost gives costs. counts_begin cost top (branches_of c.args.branches.items);
   count = count_begin c.args.steps.now;
   left = left_begin c.args.problem.now c.args.branches.items;
+  walk = c.begin-walk.ensures.walk;
+  made = given_made c.args.problem.now c.args.branches.items c.begin-walk.result.given (c.begin-walk.ensures.given ∙ search rules);
 }
 
 pub returns-in-Err-clause-answer : goal.returns-in-Err-clause-answer
@@ -24,6 +28,13 @@ returns-in-Err-clause-answer g c = (
   c.loop-branch.invariant.left,
   cause_left c.args.problem.now c.loop-branch.left.items c.pop.new.self.items c.in-Some.branch c.in-Err.halt.cause c.in-Some.ensures.items c.in-Err.ensures.answer.1,
 )
+
+pub expansion_of-requires-clause-walk : goal.expansion_of-requires-clause-walk
+expansion_of-requires-clause-walk g c = c.loop-branch.invariant.walk
+
+pub expansion_of-requires-clause-made : goal.expansion_of-requires-clause-made
+expansion_of-requires-clause-made g c =
+    last_made c.args.problem.now c.in-Some.branch c.loop-branch.left.items c.pop.new.self.items c.in-Some.ensures.items c.loop-branch.walk.given c.len-count.result (search rules) c.loop-branch.invariant.made
 
 pub loop-branch-smaller : goal.loop-branch-smaller
 loop-branch-smaller g c =
@@ -38,7 +49,8 @@ loop-branch-smaller g c =
 pub loop-branch-preserved : goal.loop-branch-preserved
 loop-branch-preserved g c =
     let p = c.args.problem.now in
-    let still = is_still_problem p c.dim-dim.ensures.valid c.requires.still in
+    let valid = c.dim-dim.ensures.valid in
+    let still = is_still_problem p valid c.requires.still in
     let given = c.args.branches.items in
     let b = c.in-Some.branch in
     let left = c.loop-branch.left.items in
@@ -55,9 +67,12 @@ loop-branch-preserved g c =
           subst (λ l. Counts cost top (branches_of given) c.count_after-solves.result (branches_of l)) (sym put)
           (turn_counts p still b left rest popped e told size cost gives costs given c.loop-branch.solves c.count_after-solves.result c.count_after-solves.ensures
           (before.counts size cost gives costs));
-      count = turn_count p b c.args.steps.now c.loop-branch.steps c.expand.new.steps c.loop-branch.solves c.count_after-solves.result c.expand.ensures.step c.expand.ensures.no_step
+      count = turn_count p b c.args.steps.now c.loop-branch.steps c.expansion_of.new.steps c.loop-branch.solves c.count_after-solves.result c.expansion_of.ensures.step c.expansion_of.ensures.no_step
           c.count_after-solves.ensures before.count;
       left = subst (λ l. Each l (IsLeft p given)) (sym put) (turn_left p given left rest b e popped told before.left);
+      walk = c.expansion_of.ensures.walk;
+      made = subst (λ l. Each (drop c.expansion_of.new.self.given l) (IsMade p)) (sym put)
+          (turn_made p (well_of p valid) b left rest popped e told c.loop-branch.walk.given c.expansion_of.new.self.given c.len-count.result (search rules) c.expansion_of.ensures.given before.made);
     }
 
 pub returns-clause-answer : goal.returns-clause-answer

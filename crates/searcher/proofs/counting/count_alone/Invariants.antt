@@ -1,10 +1,11 @@
-use Rattle.std.proofs.Common.{ℕ, List}
+use Rattle.std.proofs.Common.{drop, ℕ}
 use Rattle.std.specs.Prelude.{sum_by}
 use Rattle.int_vectors.specs.Vectors.{Each}
 use Rattle.cayley.specs.Shares.{Branch, GivesSizes, GivesCosts}
 use Rattle.cayley.proofs.Searching.Steps.{Counts, weight}
 use Rattle.searcher.specs.Branches.{branches_of}
 use Rattle.searcher.specs.Searches.{IsLeft, IsCount, top}
+use Rattle.searcher.specs.Walks.{IsMade, IsWalk}
 use Rattle.searcher.proofs.Sizes.{size_in}
 use Rattle.searcher.proofs.CountedShares.{Tallies}
 use Rattle.searcher.proofs.counting.count_alone.Given as goal
@@ -15,6 +16,8 @@ invariant-loop-branch g l = record {
   counts : (size cost : Branch → ℕ) → GivesSizes l.problem size → GivesCosts l.problem size cost → Counts cost top (branches_of l.fn.branches.items) l.solves (branches_of l.left.items);
   count : IsCount l.fn.steps l.steps l.solves;
   left : Each l.left.items (IsLeft l.problem l.fn.branches.items);
+  walk : IsWalk l.problem l.walk;
+  made : Each (drop l.walk.given l.left.items) (IsMade l.problem);
 }
 
 abbrev pub decreases-loop-branch : goal.decreases-loop-branch

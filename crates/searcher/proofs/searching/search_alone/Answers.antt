@@ -1,10 +1,12 @@
-use Rattle.std.proofs.Common.{rules, ◌≡◌, ◌<◌, [], ◌∷◌, ◌++◌, ap, sym, subst, ◌∙◌}
+use Rattle.std.proofs.Common.{rules, drop, ◌≡◌, ◌<◌, [], ◌∷◌, ◌++◌, ap, sym, subst, ◌∙◌}
 use Rattle.std.specs.Prelude.{sum_by}
 use Rattle.int_vectors.specs.Vectors.{Each}
 use Rattle.cayley.proofs.Searching.Steps.{Keeps, Counts, weight, keeps_begin, counts_begin}
 use Rattle.searcher.specs.Branches.{branches_of}
 use Rattle.searcher.specs.Expansions.{HasLowestNormal}
 use Rattle.searcher.specs.Searches.{IsLeft, cells_of, opened, found_in, top}
+use Rattle.searcher.specs.Walks.{IsMade}
+use Rattle.searcher.proofs.MadeBranches.{given_made, last_made, turn_made}
 use Rattle.searcher.proofs.Sizes.{size_in, size_in_gives}
 use Rattle.searcher.proofs.Turns.{is_still_problem, well_of, turn_keeps, turn_counts, turn_falls, turn_normals, HasFit, turn_fit, turn_left, turn_count, left_begin, count_begin, count_few}
 use Rattle.searcher.proofs.Results.{found_whole, each_sorted, finds_share, finds_size, cause_left, stopped_with}
@@ -20,6 +22,8 @@ loop-branch-init g c = record {
   normals = subst (λ l. Each l (HasLowestNormal c.args.problem.now)) (sym c.new-cells.ensures.items) tt;
   fit = subst (λ l. Each l (HasFit c.args.problem.now)) (sym c.new-cells.ensures.items) tt;
   left = left_begin c.args.problem.now c.args.branches.items;
+  walk = c.begin-walk.ensures.walk;
+  made = given_made c.args.problem.now c.args.branches.items c.begin-walk.result.given (c.begin-walk.ensures.given ∙ search rules);
 }
 
 pub returns-in-Err-clause-answer : goal.returns-in-Err-clause-answer
@@ -33,8 +37,15 @@ returns-in-Err-clause-answer g c =
 
 pub returns-in-Err-clause-counted : goal.returns-in-Err-clause-counted
 returns-in-Err-clause-counted g c =
-    turn_count c.args.problem.now c.in-Some.branch c.args.steps.now c.loop-branch.steps c.expand.new.steps c.loop-branch.solves c.count_after-solves.result c.expand.ensures.step
-    c.expand.ensures.no_step c.count_after-solves.ensures c.loop-branch.invariant.count
+    turn_count c.args.problem.now c.in-Some.branch c.args.steps.now c.loop-branch.steps c.expansion_of.new.steps c.loop-branch.solves c.count_after-solves.result c.expansion_of.ensures.step
+    c.expansion_of.ensures.no_step c.count_after-solves.ensures c.loop-branch.invariant.count
+
+pub expansion_of-requires-clause-walk : goal.expansion_of-requires-clause-walk
+expansion_of-requires-clause-walk g c = c.loop-branch.invariant.walk
+
+pub expansion_of-requires-clause-made : goal.expansion_of-requires-clause-made
+expansion_of-requires-clause-made g c =
+    last_made c.args.problem.now c.in-Some.branch c.loop-branch.left.items c.pop.new.self.items c.in-Some.ensures.items c.loop-branch.walk.given c.len-count.result (search rules) c.loop-branch.invariant.made
 
 pub loop-branch-smaller : goal.loop-branch-smaller
 loop-branch-smaller g c =
@@ -71,11 +82,14 @@ loop-branch-preserved g c =
           subst (λ l. Counts cost top (branches_of given) c.count_after-solves.result (branches_of l)) (sym put)
           (turn_counts p still b left rest popped e told size cost gives costs given c.loop-branch.solves c.count_after-solves.result c.count_after-solves.ensures
           (before.counts size cost gives costs));
-      count = turn_count p b c.args.steps.now c.loop-branch.steps c.expand.new.steps c.loop-branch.solves c.count_after-solves.result c.expand.ensures.step c.expand.ensures.no_step
+      count = turn_count p b c.args.steps.now c.loop-branch.steps c.expansion_of.new.steps c.loop-branch.solves c.count_after-solves.result c.expansion_of.ensures.step c.expansion_of.ensures.no_step
           c.count_after-solves.ensures before.count;
       normals = subst (λ l. Each l (HasLowestNormal p)) (sym kept) (turn_normals p b e told cells before.normals);
       fit = subst (λ l. Each l (HasFit p)) (sym kept) (turn_fit p b e told cells before.fit);
       left = subst (λ l. Each l (IsLeft p given)) (sym put) (turn_left p given left rest b e popped told before.left);
+      walk = c.expansion_of.ensures.walk;
+      made = subst (λ l. Each (drop c.expansion_of.new.self.given l) (IsMade p)) (sym put)
+          (turn_made p (well_of p valid) b left rest popped e told c.loop-branch.walk.given c.expansion_of.new.self.given c.len-count.result (search rules) c.expansion_of.ensures.given before.made);
     }
 
 pub returns-clause-answer : goal.returns-clause-answer

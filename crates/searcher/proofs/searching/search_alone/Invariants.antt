@@ -1,4 +1,4 @@
-use Rattle.std.proofs.Common.{ℕ, List}
+use Rattle.std.proofs.Common.{drop, ℕ, List}
 use Rattle.std.specs.Prelude.{sum_by}
 use Rattle.int_vectors.specs.Vectors.{Each}
 use Rattle.cayley.specs.Cells.{Cell}
@@ -7,6 +7,7 @@ use Rattle.cayley.proofs.Searching.Steps.{Keeps, Counts, weight}
 use Rattle.searcher.specs.Branches.{branches_of}
 use Rattle.searcher.specs.Expansions.{HasLowestNormal}
 use Rattle.searcher.specs.Searches.{IsLeft, IsCount, cells_of, top}
+use Rattle.searcher.specs.Walks.{IsMade, IsWalk}
 use Rattle.searcher.proofs.Sizes.{size_in}
 use Rattle.searcher.proofs.Turns.{HasFit}
 use Rattle.searcher.proofs.searching.search_alone.Given as goal
@@ -19,6 +20,8 @@ invariant-loop-branch g l = record {
   normals : Each l.cells.items (HasLowestNormal l.problem);
   fit : Each l.cells.items (HasFit l.problem);
   left : Each l.left.items (IsLeft l.problem l.fn.branches.items);
+  walk : IsWalk l.problem l.walk;
+  made : Each (drop l.walk.given l.left.items) (IsMade l.problem);
 }
 
 abbrev pub decreases-loop-branch : goal.decreases-loop-branch

@@ -2,7 +2,7 @@ use Rattle.std.proofs.Common.{◌-◌, arith}
 use Rattle.cayley.proofs.OneCell.CellRows.{InRange}
 use Rattle.inner_normal.proofs.Reading.{cell_long}
 use Rattle.searcher.proofs.KeptChildren.{at_wall}
-use Rattle.searcher.proofs.children.kept_children.Goals as goal
+use Rattle.searcher.proofs.children.kept_by.Goals as goal
 
 pub successors-cells-requires-clause-support : goal.successors-cells-requires-clause-support
 successors-cells-requires-clause-support c =
@@ -23,5 +23,5 @@ kept_among-requires-clause-support c =
 pub returns : goal.returns
 returns c =
     let w =
-    at_wall c.args.problem.now c.args.cell.now (c.args.support - 1) c.args.position c.in_ok-signs.signs c.args.time c.dim-dim.ensures.valid.shape.problem c.requires.wall c.in_ok-signs.ensures in
+    at_wall c.args.problem.now c.args.cell.now (c.args.support - 1) c.args.position c.args.signs c.args.time c.dim-dim.ensures.valid.shape.problem c.requires.wall c.requires.signs in
     c.kept_among.ensures c.args.problem.now w (c.successors-cells.ensures.flips c.args.problem.now w.t w.wall)

@@ -1,0 +1,29 @@
+-- The falling lines that are zero first, by their numbers alone; no public clause cites these.
+use Rattle.std.specs.Prelude.{◌≡◌, ℕ, List, [], length, pos, ◌<ℤ◌}
+use Rattle.wide_int.specs.Whole.{FitsWhole}
+use Rattle.crossing.specs.declared.line.WallLine.{WallLine}
+use Rattle.crossing.specs.declared.leaders.Way.TheVariants.{Falling}
+use Rattle.crossing.specs.declared.leaders.Leaders.TheVariants as led
+use Rattle.crossing.specs.Leading.{IsLed, nth}
+use Rattle.cone_walls.specs.declared.fronts.Fall.{Fall}
+use Rattle.cone_walls.specs.declared.fronts.Front.{Front}
+use Rattle.cone_walls.specs.declared.fronts.Front.TheVariants.{Empty, One, Two}
+
+-- the line with these numbers
+abbrev pub line_by : Fall → WallLine
+line_by f = record { support = f.support; position = f.position; alpha = f.alpha; beta = f.beta; fine = [] }
+
+-- the line falls, and its numbers fit
+abbrev pub IsFall : Fall → Type 0
+IsFall f = (f.beta <ℤ pos 0) × FitsWhole f.alpha × FitsWhole f.beta
+
+abbrev pub AreFalls : Front → Type 0
+AreFalls Empty = Unit {0}
+AreFalls (One f) = IsFall f
+AreFalls (Two f g) = IsFall f × IsFall g
+
+-- no line falls; or of those that fall one alone is zero first; or the first two of several that are
+abbrev pub IsFront : List WallLine → Front → Type 0
+IsFront lines Empty = IsLed Falling lines (length lines) led.None
+IsFront lines (One f) = (a : ℕ) × IsLed Falling lines (length lines) (led.One a) × (nth lines a ≡ line_by f)
+IsFront lines (Two f g) = (a b : ℕ) × IsLed Falling lines (length lines) (led.Two a b) × (nth lines a ≡ line_by f) × (nth lines b ≡ line_by g)

@@ -1,0 +1,108 @@
+// The front of the lines of all further points, one point after the other.
+ghost use Rattle.std.specs.Prelude.{◌≡◌, ◌⊎◌, ◌↔◌, ◌≤◌, ◌++◌, List, IsTrue, length};
+ghost use Rattle.cayley.specs.Cells.{IsOf};
+ghost use Rattle.cayley.specs.Problems.{point_at, with_rank};
+ghost use Rattle.cayley.specs.Stored.{point};
+ghost use Rattle.cayley.specs.Valid.{support_at};
+ghost use Rattle.crossing.specs.declared.line.WallLine.{WallLine};
+ghost use Rattle.cone_walls.specs.Fronts.{AreFalls, IsFront};
+ghost use Rattle.cone_walls.specs.Listed.{one_line, support_lines, wall_lines};
+ghost use Rattle.cone_walls.specs.Rooms.{IsNarrowOf};
+
+use crate::fronts::{Fall, Front, joined};
+use crate::slopes::{slope, start};
+use cayley::{Cell, Point, Problem};
+use inner_normal::MovingNormal;
+
+// Whether a position is one of the pair's.
+#[inline(always)]
+fn is_own(pair: (u32, u32), position: u32) -> bool
+    ensures { IsTrue result ↔ ((position ≡ pair.0) ⊎ (position ≡ pair.1)) }
+{
+    position == pair.0 || position == pair.1
+}
+
+// The front with the line of the point at a position of support i, unless it is of the pair.
+#[inline(always)]
+fn passed(
+    front: Front,
+    problem: &Problem,
+    normal: &MovingNormal,
+    i: u32,
+    pair: (u32, u32),
+    a: &Point,
+    position: u32,
+) -> Front
+    requires least { 1 ≤ i }
+    requires greatest { i ≤ problem.now.dimension }
+    requires pair { (1 ≤ pair.0) × (pair.0 ≤ length (support_at problem.now i)) }
+    requires first { point a.now ≡ with_rank 0 (point_at (support_at problem.now i) pair.0) }
+    requires position { (1 ≤ position) × (position ≤ length (support_at problem.now i)) }
+    requires p_long { length normal.now.p ≡ problem.now.dimension }
+    requires q_long { length normal.now.q ≡ problem.now.dimension }
+    requires room { IsNarrowOf problem.now normal.now }
+    requires falls { AreFalls front }
+    ensures falls { AreFalls result }
+    ensures front { (lines : List WallLine) → IsFront lines front → IsFront (lines ++ one_line normal.now i (support_at problem.now i) pair.0 pair.1 position) result }
+{
+    if is_own(pair, position) {
+        return front;
+    }
+    let c = problem.point(i, position);
+    let beta = slope(normal, a, c);
+    if beta >= 0 {
+        return front;
+    }
+    let alpha = start(normal, a, c);
+    let fall = Fall {
+        support: i,
+        position,
+        alpha: alpha as i128,
+        beta: beta as i128,
+    };
+    joined(front, fall)
+}
+
+// The front with the lines of the further points of support i.
+fn passed_all(
+    front: Front,
+    problem: &Problem,
+    normal: &MovingNormal,
+    i: u32,
+    pair: (u32, u32),
+) -> Front
+    requires least { 1 ≤ i }
+    requires greatest { i ≤ problem.now.dimension }
+    requires pair { (1 ≤ pair.0) × (pair.0 ≤ length (support_at problem.now i)) }
+    requires p_long { length normal.now.p ≡ problem.now.dimension }
+    requires q_long { length normal.now.q ≡ problem.now.dimension }
+    requires room { IsNarrowOf problem.now normal.now }
+    requires falls { AreFalls front }
+    ensures falls { AreFalls result }
+    ensures front { (lines : List WallLine) → IsFront lines front → IsFront (lines ++ support_lines normal.now i (support_at problem.now i) pair.0 pair.1) result }
+{
+    let a = problem.point(i, pair.0);
+    let mut leading = front;
+    for index in 0..problem.count(i) {
+        leading = passed(leading, problem, normal, i, pair, a, index + 1);
+    }
+    leading
+}
+
+// The front of the lines of all further points.
+pub(crate) fn front_of(problem: &Problem, cell: &Cell, normal: &MovingNormal) -> Front
+    requires of { IsOf problem.now cell.now }
+    requires p_long { length normal.now.p ≡ problem.now.dimension }
+    requires q_long { length normal.now.q ≡ problem.now.dimension }
+    requires room { IsNarrowOf problem.now normal.now }
+    ensures falls { AreFalls result }
+    ensures front { IsFront (wall_lines normal.now 1 problem.now.supports cell.now) result }
+{
+    // A problem is valid by its type, as its readers tell.
+    let _dim = problem.dim();
+    let mut leading = Front::Empty;
+    for (i, pair) in cell.pairs().iter().enumerate() {
+        leading = passed_all(leading, problem, normal, i as u32 + 1, *pair);
+    }
+    leading
+}

@@ -1,0 +1,148 @@
+ghost use Rattle.std.specs.Prelude.{◌≡◌, ◌≤◌, ◌-◌, ◌+◌, IfOk, IfSome, MatchOption, MatchResult};
+ghost use Rattle.cayley.specs.Cells.{IsOf};
+ghost use Rattle.cayley.specs.Dependencies.{IsFurtherAt};
+ghost use Rattle.cayley.specs.Problems.{IsStill, version1};
+ghost use Rattle.inner_normal.specs.MovingNormals.{IsMovingNormal};
+ghost use Rattle.cone_walls.specs.Ends.{IsEndOf};
+ghost use Rattle.searcher.specs.Ends.{IsTiedAtBegin};
+ghost use Rattle.searcher.specs.Expansions.{IsCause, IsExpansion, IsSettled};
+ghost use Rattle.searcher.specs.Kept.{AreSignsAt};
+ghost use Rattle.searcher.specs.Walks.{IsLast};
+ghost use Rattle.searcher.specs.Workings.{FitsWorking};
+
+use crate::branches::Branch;
+use crate::children::{kept_by, signs_at};
+use crate::expansions::{Expansion, HaltCause};
+use crate::lasts::Last;
+use crate::targets::endless;
+use cayley::{Cell, Problem, TieProof};
+use cone_walls::{End, Steps, end_of};
+use flip_rule::Signs;
+use inner_normal::{Eliminated, MovingNormal};
+use std::alloc::Global;
+use std::sync::ledger::Ledger;
+use wide_int::OutOfMemory;
+
+// The normal of a cell, and where the cell ends.
+#[derive(Drop)]
+pub(crate) struct Sought {
+    pub(crate) normal: MovingNormal,
+    pub(crate) end: End,
+}
+
+// The normal and the end of the last cell, unless a number might not fit.
+pub(crate) fn seek<L: Ledger>(
+    alloc: Global,
+    problem: &Problem,
+    last: &Last,
+    steps: &mut Steps<L>,
+) -> Option<Sought>
+    requires still { IsStill problem.now }
+    requires last { IsLast problem.now last.now }
+    requires first { problem.now.version ≡ version1 }
+    ensures step { MatchOption result (steps.new ≡ steps.old) (λ _. steps.new ≡ steps.old + 1) }
+    ensures found { IfSome result (λ s. IsMovingNormal problem.now last.now.cell s.normal × IsEndOf problem.now last.now.cell s.normal s.end) }
+{
+    let Ok(normal) = last.carried.normal(alloc, problem, &last.cell) else {
+        return None;
+    };
+    let end = end_of(alloc, problem, &last.cell, &normal, steps)?;
+    Some(Sought { normal, end })
+}
+
+// The signs at the pair of a circuit by an elimination. All numbers fit, so that it is refused for
+// want of memory alone.
+fn signs_anew(
+    alloc: Global,
+    problem: &Problem,
+    cell: &Cell,
+    support: u32,
+    position: u32,
+) -> Result<Signs, OutOfMemory>
+    requires cell { IsOf problem.now cell.now }
+    requires point { (1 ≤ support) × (support ≤ problem.now.dimension) × IsFurtherAt problem.now cell.now (support - 1) position }
+    requires fits { FitsWorking problem.now cell.now }
+    ensures { IfOk result (AreSignsAt problem.now cell.now (support - 1) position) }
+{
+    let Ok(eliminated) = Eliminated::of(alloc, problem, cell) else {
+        return Err(OutOfMemory);
+    };
+    let Ok(inverse) = eliminated.inverse(alloc) else {
+        return Err(OutOfMemory);
+    };
+    signs_at(alloc, problem, cell, &inverse, support, position)
+}
+
+// The signs at the pair of the circuit of the last cell and a further point.
+fn signs_by(
+    alloc: Global,
+    problem: &Problem,
+    last: &Last,
+    support: u32,
+    position: u32,
+) -> Result<Signs, OutOfMemory>
+    requires last { IsLast problem.now last.now }
+    requires point { (1 ≤ support) × (support ≤ problem.now.dimension) × IsFurtherAt problem.now last.now.cell (support - 1) position }
+    requires fits { FitsWorking problem.now last.now.cell }
+    ensures { IfOk result (AreSignsAt problem.now last.now.cell (support - 1) position) }
+{
+    // A problem is valid by its type, as its readers tell.
+    let _dim = problem.dim();
+    match last.carried.signs(problem, &last.cell, support, position) {
+        Some((a, b)) => match Signs::new(a, b) {
+            Some(signs) => Ok(signs),
+            // The three numbers add up to zero, and the last is positive.
+            None => unreachable!(),
+        },
+        None => signs_anew(alloc, problem, &last.cell, support, position),
+    }
+}
+
+// What a true branch is expanded to, by the end of its cell.
+pub(crate) fn ended_by(
+    alloc: Global,
+    problem: &Problem,
+    branch: &Branch,
+    last: &Last,
+    normal: MovingNormal,
+    end: &End,
+) -> Result<Expansion, HaltCause>
+    requires still { IsStill problem.now }
+    requires settled { IsSettled problem.now branch.now }
+    requires untied { ¬ (IsTiedAtBegin problem.now branch.now.cell) }
+    requires last { IsLast problem.now last.now }
+    requires cell { last.now.cell ≡ branch.now.cell }
+    requires normal { IsMovingNormal problem.now branch.now.cell normal }
+    requires end { IsEndOf problem.now branch.now.cell normal end.now }
+    ensures { MatchResult result (IsExpansion problem.now branch.now) (IsCause problem.now branch.now) }
+{
+    // A problem is valid by its type, as its readers tell.
+    let _dim = problem.dim();
+    match *end {
+        End::Never => Ok(endless(problem, branch, normal)),
+        End::At { time, place } => {
+            let Ok(signs) = signs_by(alloc, problem, last, place.support, place.position) else {
+                return Err(HaltCause::OutOfMemory);
+            };
+            let children = kept_by(
+                problem,
+                &last.cell,
+                signs,
+                place.support,
+                place.position,
+                time,
+            );
+            Ok(Expansion::Inner { children })
+        }
+        End::Tied {
+            time,
+            first,
+            second,
+        } => Err(HaltCause::Tie(TieProof {
+            cell: branch.cell().copy(),
+            time,
+            first,
+            second: Some(second),
+        })),
+    }
+}

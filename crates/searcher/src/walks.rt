@@ -1,0 +1,137 @@
+ghost use Rattle.std.specs.Prelude.{◌≡◌, ◌+◌, ◌≤◌, min, IfErr, IfSome, IsTrue, MatchResult};
+ghost use Rattle.cayley.specs.Cells.{IsOf};
+ghost use Rattle.cayley.specs.Problems.{IsStill};
+ghost use Rattle.cayley.specs.Ties.{IsTieFree};
+ghost use Rattle.searcher.specs.Expansions.{IsExpansion, IsHalt, ShowsTieAtEnd, HasNoTie};
+ghost use Rattle.searcher.specs.Walks.{IsCarried, IsLast, IsMade, IsWalk};
+
+use crate::branches::Branch;
+use crate::endings::{ended_by, seek};
+use crate::expansions::{Expansion, Halt, expand};
+use crate::lasts::{Last, reach};
+use cayley::Problem;
+use cell_bound::every_cell_fits;
+use cone_walls::Steps;
+use std::alloc::Global;
+use std::mem;
+use std::sync::ledger::Ledger;
+
+// What a search keeps beside its branches. Those that it was given stand first, and are expanded by
+// an elimination; of those that it made no entry is formed.
+#[derive(Drop)]
+pub(crate) struct Walk {
+    // Whether the working of each cell fits, and the heights have no infinitesimals.
+    pub(crate) carries: bool,
+    // No fewer than the given branches that are left.
+    pub(crate) given: usize,
+    pub(crate) last: Option<Last>,
+}
+
+fn carries(problem: &Problem) -> bool
+    ensures { IsTrue result → IsCarried problem.now }
+{
+    problem.version() == 1 && every_cell_fits(problem)
+}
+
+fn lesser(a: usize, b: usize) -> usize
+    ensures { result ≡ min a b }
+{
+    if a < b { a } else { b }
+}
+
+// The expansion of a branch that the search made.
+fn carried_on<L: Ledger>(
+    alloc: Global,
+    problem: &Problem,
+    branch: Branch,
+    last: &mut Option<Last>,
+    steps: &mut Steps<L>,
+) -> Result<Expansion, Halt>
+    requires still { IsStill problem.now }
+    requires carries { IsCarried problem.now }
+    requires made { IsMade problem.now branch }
+    requires last { IfSome last.old (IsLast problem.now) }
+    ensures last { IfSome last.new (IsLast problem.now) }
+    ensures answer { MatchResult result (IsExpansion problem.now branch) (IsHalt problem.now branch) }
+    ensures step { IsOf problem.now branch.cell → steps.new ≡ steps.old + 1 }
+{
+    let Some(reached) = reach(alloc, problem, branch.cell(), mem::replace(last, None)) else {
+        return expand(alloc, problem, branch, steps);
+    };
+    let Some(sought) = seek(alloc, problem, &reached, steps) else {
+        return expand(alloc, problem, branch, steps);
+    };
+    let normal = sought.normal;
+    let answer = ended_by(alloc, problem, &branch, &reached, normal, &sought.end);
+    *last = Some(reached);
+    match answer {
+        Ok(expansion) => Ok(expansion),
+        Err(cause) => Err(Halt { cause, branch }),
+    }
+}
+
+impl Walk {
+    // A walk from this many given branches.
+    pub(crate) fn begin(problem: &Problem, given: usize) -> Walk
+        ensures walk { IsWalk problem.now result }
+        ensures given { result.given ≡ given }
+    {
+        Walk {
+            carries: carries(problem),
+            given,
+            last: None,
+        }
+    }
+
+    // The expansion of a branch that stood behind `count` others.
+    fn answer_of<L: Ledger>(
+        &mut self,
+        alloc: Global,
+        problem: &Problem,
+        branch: Branch,
+        count: usize,
+        steps: &mut Steps<L>,
+    ) -> Result<Expansion, Halt>
+        requires still { IsStill problem.now }
+        requires walk { IsWalk problem.now self.old }
+        requires made { self.old.given ≤ count → IsMade problem.now branch }
+        ensures walk { IsWalk problem.now self.new }
+        ensures given { self.new.given ≡ min self.old.given count }
+        ensures answer { MatchResult result (IsExpansion problem.now branch) (IsHalt problem.now branch) }
+        ensures step { IsOf problem.now branch.cell → steps.new ≡ steps.old + 1 }
+        ensures no_step { ¬ (IsOf problem.now branch.cell) → steps.new ≡ steps.old }
+    {
+        let made = self.given <= count;
+        self.given = lesser(self.given, count);
+        if made && self.carries {
+            carried_on(alloc, problem, branch, &mut self.last, steps)
+        } else {
+            expand(alloc, problem, branch, steps)
+        }
+    }
+
+    // The same with what `expand` says of ties.
+    pub(crate) fn expansion_of<L: Ledger>(
+        &mut self,
+        alloc: Global,
+        problem: &Problem,
+        branch: Branch,
+        count: usize,
+        steps: &mut Steps<L>,
+    ) -> Result<Expansion, Halt>
+        requires still { IsStill problem.now }
+        requires walk { IsWalk problem.now self.old }
+        requires made { self.old.given ≤ count → IsMade problem.now branch }
+        ensures walk { IsWalk problem.now self.new }
+        ensures given { self.new.given ≡ min self.old.given count }
+        ensures answer { MatchResult result (IsExpansion problem.now branch) (IsHalt problem.now branch) }
+        ensures tie { IfErr result (λ halt. ShowsTieAtEnd problem.now halt.cause) }
+        ensures untied { IsTieFree problem.now → IfErr result (λ halt. HasNoTie halt.cause) }
+        ensures step { IsOf problem.now branch.cell → steps.new ≡ steps.old + 1 }
+        ensures no_step { ¬ (IsOf problem.now branch.cell) → steps.new ≡ steps.old }
+    {
+        // A problem is valid by its type, as its readers tell.
+        let _dim = problem.dim();
+        self.answer_of(alloc, problem, branch, count, steps)
+    }
+}
