@@ -58,10 +58,15 @@ module _ (p : Problem) (well : IsProblem p) (generic : IsGeneric p) where
           let w = less e.0 time_zero in
           let s = sooner w.w in
           absurd (not_before s.u (e.1 s.u (w.first s.u s.before)) (w.second s.u s.before))
-      | inr r ↦ (r.0, r.2, r.1, λ l.
-          let w = earlier r.0 r.2.0.0 time_zero r.2.0.1 l in
-          let m = middle r.0 w.w w.after in
-          not_before m.m (r.2.0.2 m.m m.after (w.first m.m m.before)) (w.second m.m m.before))
+      | inr r ↦ (
+        r.0,
+        r.2,
+        r.1,
+        λ l.
+            let w = earlier r.0 r.2.0.0 time_zero r.2.0.1 l in
+            let m = middle r.0 w.w w.after in
+            not_before m.m (r.2.0.2 m.m m.after (w.first m.m m.before)) (w.second m.m m.before),
+      )
     ]
 
   -- a cell that is alive at a time from 0 to 1 has one that is alive at 0 in its chain

@@ -61,12 +61,15 @@ module _ (f : Point → Point) (blank : f origin ≡ origin) (t u : Time)
     alive_to h = (
       of_to h.0,
       (λ v l e. h.1 v l (from_pairs p.supports cell
-      (λ s a b. dot (sub (point_at s b).coordinates (point_at s a).coordinates) v ≡ pos 0) (λ s a b. dot (sub (point_at s b).coordinates (point_at s a).coordinates) v ≡ pos 0)
-      (λ s a b z. ap (λ d. dot d v) (sym (edge_at s a b)) ∙ z) e)),
+          (λ s a b. dot (sub (point_at s b).coordinates (point_at s a).coordinates) v ≡ pos 0) (λ s a b. dot (sub (point_at s b).coordinates (point_at s a).coordinates) v ≡ pos 0)
+          (λ s a b z. ap (λ d. dot d v) (sym (edge_at s a b)) ∙ z) e)),
       (
         h.2.0,
-        (h.2.1.0, to_pairs p.supports cell (λ s a b. IsZero (gap t h.2.0 (point_at s a) (point_at s b))) (λ s a b. IsZero (gap u h.2.0 (point_at s a) (point_at s b)))
-            (λ s a b z. subst IsZero (sym (gap_at h.2.0 s a b)) z) h.2.1.1),
+        (
+          h.2.1.0,
+          to_pairs p.supports cell (λ s a b. IsZero (gap t h.2.0 (point_at s a) (point_at s b))) (λ s a b. IsZero (gap u h.2.0 (point_at s a) (point_at s b)))
+              (λ s a b z. subst IsZero (sym (gap_at h.2.0 s a b)) z) h.2.1.1,
+        ),
         to_pairs p.supports cell (λ s a b. (c : ℕ) → IsFurther s a b c → IsPositive (gap t h.2.0 (point_at s a) (point_at s c)))
             (λ s a b. (c : ℕ) → IsFurther s a b c → IsPositive (gap u h.2.0 (point_at s a) (point_at s c)))
             (λ s a b z c k. subst IsPositive (sym (gap_at h.2.0 s a c)) (z c (further_from s a b c k))) h.2.2,
@@ -77,12 +80,15 @@ module _ (f : Point → Point) (blank : f origin ≡ origin) (t u : Time)
     alive_from h = (
       of_from h.0,
       (λ v l e. h.1 v l (to_pairs p.supports cell
-      (λ s a b. dot (sub (point_at s b).coordinates (point_at s a).coordinates) v ≡ pos 0) (λ s a b. dot (sub (point_at s b).coordinates (point_at s a).coordinates) v ≡ pos 0)
-      (λ s a b z. ap (λ d. dot d v) (edge_at s a b) ∙ z) e)),
+          (λ s a b. dot (sub (point_at s b).coordinates (point_at s a).coordinates) v ≡ pos 0) (λ s a b. dot (sub (point_at s b).coordinates (point_at s a).coordinates) v ≡ pos 0)
+          (λ s a b z. ap (λ d. dot d v) (edge_at s a b) ∙ z) e)),
       (
         h.2.0,
-        (h.2.1.0, from_pairs p.supports cell (λ s a b. IsZero (gap t h.2.0 (point_at s a) (point_at s b))) (λ s a b. IsZero (gap u h.2.0 (point_at s a) (point_at s b)))
-            (λ s a b z. subst IsZero (gap_at h.2.0 s a b) z) h.2.1.1),
+        (
+          h.2.1.0,
+          from_pairs p.supports cell (λ s a b. IsZero (gap t h.2.0 (point_at s a) (point_at s b))) (λ s a b. IsZero (gap u h.2.0 (point_at s a) (point_at s b)))
+              (λ s a b z. subst IsZero (gap_at h.2.0 s a b) z) h.2.1.1,
+        ),
         from_pairs p.supports cell (λ s a b. (c : ℕ) → IsFurther s a b c → IsPositive (gap t h.2.0 (point_at s a) (point_at s c)))
             (λ s a b. (c : ℕ) → IsFurther s a b c → IsPositive (gap u h.2.0 (point_at s a) (point_at s c)))
             (λ s a b z c k. subst IsPositive (gap_at h.2.0 s a c) (z c (further_to s a b c k))) h.2.2,

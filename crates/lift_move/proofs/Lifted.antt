@@ -77,8 +77,6 @@ each_lifted P Q R f [] hs p q = tt
 each_lifted P Q R f (x ∷ s) [] p q = tt
 each_lifted P Q R f (x ∷ s) (h ∷ hs) p q = (f x h p.0 q.0, each_lifted P Q R f s hs p.1 q.1)
 
-
-
 by_support : (P : List FilePoint → Type 0) (Q : List ℤ → Type 0) (R : List FilePoint → Type 0) → ((s : List FilePoint) (hs : List ℤ) → length hs ≡ length s → P s → Q hs → R (lifted_points s hs))
     → (ss : List (List FilePoint)) (second : List (List ℤ)) → map length second ≡ map length ss → Each ss P → Each second Q → Each (lifted_supports ss second) R
 by_support P Q R f [] second e p q = tt

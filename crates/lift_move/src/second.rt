@@ -115,10 +115,5 @@ pub fn second_file(
 {
     let supports = lifted_supports(alloc, file.supports(), second)?;
     let starts = copied_starts(alloc, file.starts())?;
-    Ok(LiftFile::from_parts(
-        file.form(),
-        file.dim(),
-        supports,
-        starts,
-    ))
+    Ok(LiftFile::from_parts(file.form(), file.dim(), supports, starts))
 }
