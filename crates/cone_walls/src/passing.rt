@@ -1,12 +1,14 @@
 // The front of the lines of all further points, one point after the other.
-ghost use Rattle.std.specs.Prelude.{◌≡◌, ◌⊎◌, ◌↔◌, ◌≤◌, ◌++◌, List, IsTrue, length};
+ghost use Rattle.std.specs.Prelude.{◌≡◌, ◌⊎◌, ◌↔◌, ◌≤◌, ◌++◌, [], ◌∷◌, ◌<ℤ◌, pos, List, IsTrue, length};
 ghost use Rattle.cayley.specs.Cells.{IsOf};
 ghost use Rattle.cayley.specs.Problems.{point_at, with_rank};
 ghost use Rattle.cayley.specs.Stored.{point};
 ghost use Rattle.cayley.specs.Valid.{support_at};
 ghost use Rattle.crossing.specs.declared.line.WallLine.{WallLine};
 ghost use Rattle.cone_walls.specs.Fronts.{AreFalls, IsFront};
-ghost use Rattle.cone_walls.specs.Listed.{one_line, support_lines, wall_lines};
+ghost use Rattle.cone_walls.specs.Listed.{line_of, one_line, support_lines, wall_lines};
+ghost use Rattle.cone_walls.specs.NarrowLines.{IsNarrowLine};
+ghost use Rattle.cone_walls.specs.Numbers as numbers;
 ghost use Rattle.cone_walls.specs.Rooms.{IsNarrowOf};
 
 use crate::fronts::{Fall, Front, joined};
@@ -22,17 +24,47 @@ fn is_own(pair: (u32, u32), position: u32) -> bool
     position == pair.0 || position == pair.1
 }
 
+// The front with the line of c at a position of support i, which falls. A function of its own, so that
+// the loop over all points stays short.
+#[inline(never)]
+fn fallen(
+    front: &mut Front,
+    normal: &MovingNormal,
+    i: u32,
+    a: &Point,
+    position: u32,
+    c: &Point,
+    beta: i64,
+)
+    requires narrow { IsNarrowLine normal.now (point a.now) (point c.now) }
+    requires beta { beta ≡ numbers.beta normal.now (point a.now) (point c.now) }
+    requires fall { beta <ℤ pos 0 }
+    requires falls { AreFalls front.old }
+    ensures falls { AreFalls front.new }
+    ensures front { (lines : List WallLine) → IsFront lines front.old → IsFront (lines ++ line_of normal.now i (point a.now) position (point c.now) ∷ []) front.new }
+{
+    let alpha = start(normal, a, c);
+    let fall = Fall {
+        support: i,
+        position,
+        alpha: alpha as i128,
+        beta: beta as i128,
+    };
+    let leading = joined(*front, fall);
+    *front = leading;
+}
+
 // The front with the line of the point at a position of support i, unless it is of the pair.
 #[inline(always)]
 fn passed(
-    front: Front,
+    front: &mut Front,
     problem: &Problem,
     normal: &MovingNormal,
     i: u32,
     pair: (u32, u32),
     a: &Point,
     position: u32,
-) -> Front
+)
     requires least { 1 ≤ i }
     requires greatest { i ≤ problem.now.dimension }
     requires pair { (1 ≤ pair.0) × (pair.0 ≤ length (support_at problem.now i)) }
@@ -41,52 +73,37 @@ fn passed(
     requires p_long { length normal.now.p ≡ problem.now.dimension }
     requires q_long { length normal.now.q ≡ problem.now.dimension }
     requires room { IsNarrowOf problem.now normal.now }
-    requires falls { AreFalls front }
-    ensures falls { AreFalls result }
-    ensures front { (lines : List WallLine) → IsFront lines front → IsFront (lines ++ one_line normal.now i (support_at problem.now i) pair.0 pair.1 position) result }
+    requires falls { AreFalls front.old }
+    ensures falls { AreFalls front.new }
+    ensures front { (lines : List WallLine) → IsFront lines front.old → IsFront (lines ++ one_line normal.now i (support_at problem.now i) pair.0 pair.1 position) front.new }
 {
     if is_own(pair, position) {
-        return front;
+        return;
     }
     let c = problem.point(i, position);
     let beta = slope(normal, a, c);
     if beta >= 0 {
-        return front;
+        return;
     }
-    let alpha = start(normal, a, c);
-    let fall = Fall {
-        support: i,
-        position,
-        alpha: alpha as i128,
-        beta: beta as i128,
-    };
-    joined(front, fall)
+    fallen(front, normal, i, a, position, c, beta);
 }
 
 // The front with the lines of the further points of support i.
-fn passed_all(
-    front: Front,
-    problem: &Problem,
-    normal: &MovingNormal,
-    i: u32,
-    pair: (u32, u32),
-) -> Front
+fn passed_all(front: &mut Front, problem: &Problem, normal: &MovingNormal, i: u32, pair: (u32, u32))
     requires least { 1 ≤ i }
     requires greatest { i ≤ problem.now.dimension }
     requires pair { (1 ≤ pair.0) × (pair.0 ≤ length (support_at problem.now i)) }
     requires p_long { length normal.now.p ≡ problem.now.dimension }
     requires q_long { length normal.now.q ≡ problem.now.dimension }
     requires room { IsNarrowOf problem.now normal.now }
-    requires falls { AreFalls front }
-    ensures falls { AreFalls result }
-    ensures front { (lines : List WallLine) → IsFront lines front → IsFront (lines ++ support_lines normal.now i (support_at problem.now i) pair.0 pair.1) result }
+    requires falls { AreFalls front.old }
+    ensures falls { AreFalls front.new }
+    ensures front { (lines : List WallLine) → IsFront lines front.old → IsFront (lines ++ support_lines normal.now i (support_at problem.now i) pair.0 pair.1) front.new }
 {
     let a = problem.point(i, pair.0);
-    let mut leading = front;
     for index in 0..problem.count(i) {
-        leading = passed(leading, problem, normal, i, pair, a, index + 1);
+        passed(front, problem, normal, i, pair, a, index + 1);
     }
-    leading
 }
 
 // The front of the lines of all further points.
@@ -102,7 +119,7 @@ pub(crate) fn front_of(problem: &Problem, cell: &Cell, normal: &MovingNormal) ->
     let _dim = problem.dim();
     let mut leading = Front::Empty;
     for (i, pair) in cell.pairs().iter().enumerate() {
-        leading = passed_all(leading, problem, normal, i as u32 + 1, *pair);
+        passed_all(&mut leading, problem, normal, i as u32 + 1, *pair);
     }
     leading
 }

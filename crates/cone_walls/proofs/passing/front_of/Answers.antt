@@ -6,12 +6,12 @@ use Rattle.cone_walls.specs.Listed.{support_lines}
 use Rattle.cone_walls.proofs.Pushing.{pair_within, support_inside, more_supports, last_support}
 use Rattle.cone_walls.proofs.passing.front_of.Goals as goal
 
-pub passed_all-leading-requires-clause-greatest : goal.passed_all-leading-requires-clause-greatest
-passed_all-leading-requires-clause-greatest c =
+pub passed_all-requires-clause-greatest : goal.passed_all-requires-clause-greatest
+passed_all-requires-clause-greatest c =
     support_inside c.args.problem.now c.args.cell.now c.pairs-pair-items.result.now c.pairs-pair-items.ensures.same c.requires.of c.loop-i.i c.loop-i-test.true c.dim-dim.ensures.valid
 
-pub passed_all-leading-requires-clause-pair : goal.passed_all-leading-requires-clause-pair
-passed_all-leading-requires-clause-pair c =
+pub passed_all-requires-clause-pair : goal.passed_all-requires-clause-pair
+passed_all-requires-clause-pair c =
     pair_within c.args.normal.now c.args.problem.now c.args.cell.now c.pairs-pair-items.result.now c.pairs-pair-items.ensures.same c.requires.of c.loop-i.i c.loop-i-test.true
 
 pub loop-i-init : goal.loop-i-init
@@ -29,10 +29,10 @@ loop-i-preserved c =
     let b = c.loop-i.invariant.front in
     let here = support_lines m (k + 1) (support_at p (k + 1)) (get_or pairs k (0, 0)).0 (get_or pairs k (0, 0)).1 in
     record {
-      falls = c.passed_all-leading.ensures.falls;
+      falls = c.passed_all.ensures.falls;
       front = (
         b.0 ++ here,
-        c.passed_all-leading.ensures.front b.0 b.1,
+        c.passed_all.ensures.front b.0 b.1,
         more_supports m p c.args.cell.now pairs c.pairs-pair-items.ensures.same c.requires.of k c.loop-i-test.true b.0 (b.0 ++ here) _ b.2 refl,
       );
     }

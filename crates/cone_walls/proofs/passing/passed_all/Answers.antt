@@ -18,11 +18,11 @@ loop-index-preserved c =
     let s = support_at c.args.problem.now c.args.i in
     let lt : c.loop-index.index < length (support_at c.args.problem.now c.args.i) = search rules in
     record {
-      falls = c.passed-leading.ensures.falls;
+      falls = c.passed.ensures.falls;
       front = λ lines h.
           let b = c.loop-index.invariant.front lines h in (
             b.0 ++ one_line m c.args.i s c.args.pair.0 c.args.pair.1 (c.loop-index.index + 1),
-            c.passed-leading.ensures.front b.0 b.1,
+            c.passed.ensures.front b.0 b.1,
             more_lines m c.args.i s c.args.pair.0 c.args.pair.1 c.loop-index.index b.0 (b.0 ++ one_line m c.args.i s c.args.pair.0 c.args.pair.1 (c.loop-index.index + 1)) (lines ++ support_lines m c.args.i s c.args.pair.0 c.args.pair.1) lt b.2 refl,
           );
     }
@@ -34,4 +34,4 @@ returns-clause-front c =
     let le : length (support_at c.args.problem.now c.args.i) ≤ c.loop-index.index = search rules in
     λ lines h.
     let b = c.loop-index.invariant.front lines h in
-    subst (λ (ls : List WallLine). IsFront ls c.loop-index.leading) (last_line m c.args.i s c.args.pair.0 c.args.pair.1 c.loop-index.index b.0 (lines ++ support_lines m c.args.i s c.args.pair.0 c.args.pair.1) le b.2) b.1
+    subst (λ (ls : List WallLine). IsFront ls c.loop-index.front) (last_line m c.args.i s c.args.pair.0 c.args.pair.1 c.loop-index.index b.0 (lines ++ support_lines m c.args.i s c.args.pair.0 c.args.pair.1) le b.2) b.1

@@ -8,8 +8,8 @@ use Rattle.cone_walls.proofs.passing.passed_all.Given as goal
 
 abbrev pub invariant-loop-index : goal.invariant-loop-index
 invariant-loop-index l = record {
-  falls : AreFalls l.leading;
-  front : (lines : List WallLine) → IsFront lines l.fn.front → (made : List WallLine) × IsFront made l.leading
+  falls : AreFalls l.front;
+  front : (lines : List WallLine) → IsFront lines l.fn.front → (made : List WallLine) × IsFront made l.front
       × (made ++ lines_from l.normal l.i (point_at (support_at l.problem l.i) l.pair.0) l.pair.0 l.pair.1 (l.index + 1) (drop l.index (support_at l.problem l.i))
       ≡ lines ++ support_lines l.normal l.i (support_at l.problem l.i) l.pair.0 l.pair.1);
 }
