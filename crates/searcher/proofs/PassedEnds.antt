@@ -2,8 +2,6 @@
 use Rattle.std.proofs.Common.{◌≡◌, inl, inr, ℕ, ◌-◌, ◌<◌, ◌≤◌, List, [], ◌∷◌, length, arith, refl, sym, subst}
 use Rattle.lex_height.specs.Entries.{entries}
 use Rattle.lex_height.specs.Values as lex
-use Rattle.cayley.specs.declared.found.Begin.{Begin}
-use Rattle.cayley.specs.declared.found.Begin.TheVariants as begin
 use Rattle.cayley.specs.Times.{Time, IsBefore, IsSameTime}
 use Rattle.cayley.specs.Problems.{Problem, IsProblem}
 use Rattle.cayley.specs.Cells.{Cell}
@@ -22,7 +20,6 @@ use Rattle.cayley.proofs.Order.Times.{never_before}
 use Rattle.cayley.proofs.Searching.Members.{has_contains}
 use Rattle.crossing.specs.declared.line.WallLine.{WallLine}
 use Rattle.crossing.specs.declared.entry.Entry.{Entry}
-use Rattle.crossing.specs.declared.entry.Entry.TheVariants as entry
 use Rattle.crossing.specs.declared.exit.Exit.{Exit}
 use Rattle.crossing.specs.declared.exit.Exit.TheVariants as exit
 use Rattle.crossing.specs.Leading.{nth}
@@ -31,7 +28,7 @@ use Rattle.crossing.specs.Exits.{IsExit}
 use Rattle.inner_normal.specs.declared.moving.MovingNormal.{MovingNormal}
 use Rattle.searcher.specs.declared.expansions.HaltCause.TheVariants as cause
 use Rattle.searcher.specs.declared.passing.Passage.TheVariants.{Reached, Ended}
-use Rattle.searcher.specs.CellWalls.{AreLinesOf, IsSaid, tie_between}
+use Rattle.searcher.specs.CellWalls.{AreLinesOf, tie_between}
 use Rattle.searcher.specs.Workings.{FitsWorking}
 use Rattle.searcher.specs.Passes.{time_one, IsOnItsWay, IsPassage, IsHaltOnTheWay}
 use Rattle.searcher.proofs.LinePoints.{further_of}
@@ -40,35 +37,22 @@ use Rattle.searcher.proofs.ShownEnds.{shown}
 use Rattle.searcher.proofs.TiedEnds.{end_tied, end_wall, end_never, end_flat}
 use Rattle.searcher.proofs.TwoEnds.{Until, after_later}
 
--- where an entry says that the cell begins
-abbrev pub begin_by : Entry → Begin
-begin_by entry.Always = begin.Start
-begin_by (entry.At u which) = begin.At u
-begin_by (entry.Tied u first second) = begin.At u
-begin_by entry.Dead = begin.Start
-
 -- a cell whose working doesn't fit
 pub unfit_halt : (p : Problem) (cell : Cell) → IsOnItsWay p cell → (z : Cell) → z ≡ cell → ¬ (FitsWorking p cell) → IsHaltOnTheWay p (cell ∷ []) (cause.Overflow z)
 unfit_halt p cell way z e n =
     subst (λ x. IsHaltOnTheWay p (cell ∷ []) (cause.Overflow x)) (sym e) (way.3.0, n, (cell, has_contains (cell ∷ []) cell (inl refl), here))
 
 module _ (p : Problem) (cell : Cell) (well : IsProblem p) (normal : MovingNormal) (lines : List WallLine) (w : AreLinesOf p cell normal lines) (way : IsOnItsWay p cell) where
-  said_by : (x : Exit) → IsExit lines x → (e : Entry) → IsEntry lines e → IsSaid (begin_by e) e
-  said_by x ix entry.Always ie = tt
-  said_by x ix (entry.At u which) ie = refl
-  said_by x ix (entry.Tied u first second) ie = refl
-  said_by x ix entry.Dead ie = absurd ((w.life entry.Dead x ie ix way.0).0 way.3).0
-
   module _ (e : Entry) (ie : IsEntry lines e) where
     at_one : (x : Exit) → IsExit lines x → Until x time_one → IsAlive p cell time_one
     at_one x ix b = (w.life e x ie ix time_one).1 (after_later lines e ie way.0 time_one ((w.life e x ie ix way.0).0 way.3).0 way.2, b)
 
     pub no_flat : (which : ℕ) → IsExit lines (exit.Flat which) → ⊥
-    no_flat which ix = end_flat p cell well lines w.places w.sides w.life (begin_by e) e ie (said_by (exit.Flat which) ix e ie) which ix
+    no_flat which ix = end_flat p cell well lines w.places w.sides way.0 way.3 which ix
 
     pub never_ended : IsExit lines exit.Never → IsPassage p cell Reached
     never_ended ix =
-        let h = end_never p cell well lines w.places w.sides w.life (begin_by e) e ie (said_by exit.Never ix e ie) ix in
+        let h = end_never p cell well lines w.places w.sides way.0 way.3 ix in
         (at_one exit.Never ix tt, λ tau r. endless_alone p well cell tau h.1 r.1)
 
     -- ---- it ends after 1
@@ -78,7 +62,7 @@ module _ (p : Problem) (cell : Cell) (well : IsProblem p) (normal : MovingNormal
     module _ (u : lex.Value) (which : ℕ) (ix : IsExit lines (exit.At u which)) where
       wall : (t : Time) × (t.entries ≡ entries u.parts) × (t.over ≡ u.den) × EndsAt p cell t
           × ((v : Normal) × IsNormal p cell t v × IsOnlyLevel p cell t v ((nth lines (which - 1)).support - 1) (nth lines (which - 1)).position)
-      wall = end_wall p cell well lines w.places w.sides w.life (begin_by e) e ie (said_by (exit.At u which) ix e ie) u which ix
+      wall = end_wall p cell well lines w.places w.sides way.0 way.3 u which ix
 
       pub one_late : ((t : Time) → t.entries ≡ entries u.parts → t.over ≡ u.den → IsBefore time_one t) → IsPassage p cell Reached
       one_late h = late (exit.At u which) ix wall.0 wall.3 (h wall.0 wall.1 wall.2) (h (record { entries = entries u.parts; over = u.den; positive = ix.1.0.2 }) refl refl)
@@ -114,12 +98,12 @@ module _ (p : Problem) (cell : Cell) (well : IsProblem p) (normal : MovingNormal
     module _ (u : lex.Value) (first second : ℕ) (ix : IsExit lines (exit.Tied u first second)) where
       pub two_late : ((t : Time) → t.entries ≡ entries u.parts → t.over ≡ u.den → IsBefore time_one t) → IsPassage p cell Reached
       two_late h =
-          let k = end_tied p cell well lines w.places w.sides w.life (begin_by e) e ie (said_by (exit.Tied u first second) ix e ie) u first second ix in
+          let k = end_tied p cell well lines w.places w.sides way.0 way.3 u first second ix in
           late (exit.Tied u first second) ix k.1.0 k.1.1 (h k.1.0 k.1.2.1.0 k.1.2.1.1) (h (record { entries = entries u.parts; over = u.den; positive = ix.1.0.2 }) refl refl)
 
       pub two_tied : ((t : Time) → t.entries ≡ entries u.parts → t.over ≡ u.den → ¬ (IsBefore time_one t)) → IsHaltOnTheWay p (cell ∷ []) (cause.Tie (tie_between cell lines u first second))
       two_tied n =
-          let k = end_tied p cell well lines w.places w.sides w.life (begin_by e) e ie (said_by (exit.Tied u first second) ix e ie) u first second ix in
+          let k = end_tied p cell well lines w.places w.sides way.0 way.3 u first second ix in
           let t = k.1.0 in
           let a = way.3 in
           let v = a_normal p cell well a.0 a.1 t in
