@@ -1,5 +1,8 @@
 -- the lines of a problem's points stay below 2 ^ 62 where the room of the normal is narrow
-use Rattle.std.proofs.Common.{◌≡◌, ℕ, ◌^◌, ◌<◌, ◌≤◌, length, arith, sym, ◌∙◌, unsigned_abs, ◌*ℤ◌, ◌-ℤ◌}
+use Rattle.std.proofs.Common.{◌≡◌, ℕ, ◌^◌, ◌<◌, ◌≤◌, length, arith, sym, ◌∙◌, unsigned_abs, ◌*ℤ◌, ◌-ℤ◌, ◌*◌, neg_ℤ, ℤ, ap}
+use Rattle.std.proofs.lemmas.Int.{unsigned_abs-mul}
+use Rattle.std.proofs.lemmas.Nat.{mul-le}
+use Rattle.int_vectors.proofs.BoundSums.{abs_neg}
 use Rattle.wide_int.specs.Whole.{FitsWhole}
 use Rattle.int_vectors.specs.Vectors.{Each, sub}
 use Rattle.int_vectors.specs.Bounds.{IsNarrow}
@@ -46,11 +49,26 @@ module _ (p : Problem) (valid : IsValidProblem p) (m : MovingNormal) (p_long : l
             (λ n within. (point_within p valid i k least greatest hk.0 hk.1 x e n within, point_within p valid i c least greatest hc.0 hc.1 y f n within));
       }
 
-whole : (n : ℕ) → n < 2 ^ 62 → n < 2 ^ 127
+pub whole : (n : ℕ) → n < 2 ^ 62 → n < 2 ^ 127
 whole n h = omega (arith, h)
+
+pub alpha_narrow : (m : MovingNormal) (a c : Point) → IsNarrowLine m a c → IsNarrow (alpha m a c)
+alpha_narrow m a c n = end_below (2 ^ 62) (m.den *ℤ (c.base -ℤ a.base)) (sub c.coordinates a.coordinates) m.p n.room.0
+
+pub beta_narrow : (m : MovingNormal) (a c : Point) → IsNarrowLine m a c → IsNarrow (beta m a c)
+beta_narrow m a c n = end_below (2 ^ 62) (m.den *ℤ (c.speed -ℤ a.speed)) (sub c.coordinates a.coordinates) m.q n.room.1
 
 pub alpha_fits : (m : MovingNormal) (a c : Point) → IsNarrowLine m a c → FitsWhole (alpha m a c)
 alpha_fits m a c n = whole (unsigned_abs (alpha m a c)) (end_below (2 ^ 62) (m.den *ℤ (c.base -ℤ a.base)) (sub c.coordinates a.coordinates) m.p n.room.0)
 
 pub beta_fits : (m : MovingNormal) (a c : Point) → IsNarrowLine m a c → FitsWhole (beta m a c)
 beta_fits m a c n = whole (unsigned_abs (beta m a c)) (end_below (2 ^ 62) (m.den *ℤ (c.speed -ℤ a.speed)) (sub c.coordinates a.coordinates) m.q n.room.1)
+
+-- the product of two numbers, one of them turned
+pub cross_below : (a b : ℤ) → IsNarrow a → IsNarrow b → unsigned_abs (a *ℤ neg_ℤ b) < 2 ^ 127
+cross_below a b p q =
+    let e = unsigned_abs-mul a (neg_ℤ b) in
+    let f = abs_neg b in
+    let m = mul-le (unsigned_abs a) (unsigned_abs b) (2 ^ 62) (2 ^ 62) (omega (arith, p)) (omega (arith, q)) in
+    let g = ap (λ n. unsigned_abs a * n) f in
+    omega (arith, e, g, m)

@@ -1,6 +1,6 @@
 -- The falling lines that are zero first, by their numbers alone; no public clause cites these.
 use Rattle.std.specs.Prelude.{◌≡◌, ℕ, List, [], length, pos, ◌<ℤ◌}
-use Rattle.wide_int.specs.Whole.{FitsWhole}
+use Rattle.int_vectors.specs.Bounds.{IsNarrow}
 use Rattle.crossing.specs.declared.line.WallLine.{WallLine}
 use Rattle.crossing.specs.declared.leaders.Way.TheVariants.{Falling}
 use Rattle.crossing.specs.declared.leaders.Leaders.TheVariants as led
@@ -13,9 +13,9 @@ use Rattle.cone_walls.specs.declared.fronts.Front.TheVariants.{Empty, One, Two}
 abbrev pub line_by : Fall → WallLine
 line_by f = record { support = f.support; position = f.position; alpha = f.alpha; beta = f.beta; fine = [] }
 
--- the line falls, and its numbers fit
+-- the line falls, and its numbers are far within 64 bits
 abbrev pub IsFall : Fall → Type 0
-IsFall f = (f.beta <ℤ pos 0) × FitsWhole f.alpha × FitsWhole f.beta
+IsFall f = (f.beta <ℤ pos 0) × IsNarrow f.alpha × IsNarrow f.beta
 
 abbrev pub AreFalls : Front → Type 0
 AreFalls Empty = Unit {0}

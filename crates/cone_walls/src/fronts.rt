@@ -6,8 +6,8 @@ ghost use Rattle.crossing.specs.declared.line.WallLine.{WallLine};
 ghost use Rattle.crossing.specs.Leading.{IsBefore, IsEven};
 ghost use Rattle.cone_walls.specs.Fronts.{line_by, IsFall, AreFalls, IsFront};
 
+use crate::sums::wide_scaled;
 use std::cmp::Ordering;
-use wide_int::compare;
 
 // The numbers of a line that falls.
 #[derive(Clone, Copy)]
@@ -36,6 +36,19 @@ fn steepness(fall: &Fall) -> i128
     -fall.beta
 }
 
+#[inline(always)]
+fn compared(x: i128, y: i128) -> Ordering
+    ensures { MatchOrdering result (x <ℤ y) (x ≡ y) (y <ℤ x) }
+{
+    if x < y {
+        Ordering::Less
+    } else if x == y {
+        Ordering::Equal
+    } else {
+        Ordering::Greater
+    }
+}
+
 // The order of the zeros of two lines.
 #[inline(always)]
 fn order(first: &Fall, second: &Fall) -> Ordering
@@ -48,7 +61,9 @@ fn order(first: &Fall, second: &Fall) -> Ordering
 {
     let steep = steepness(first);
     let other = steepness(second);
-    compare(first.alpha, steep, second.alpha, other)
+    let own = wide_scaled(first.alpha, other);
+    let theirs = wide_scaled(second.alpha, steep);
+    compared(own, theirs)
 }
 
 // The front with one more line that falls.

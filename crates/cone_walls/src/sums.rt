@@ -191,7 +191,7 @@ pub(crate) fn narrow_line_of(
 
 // The product of two numbers, where a bound shows that it fits.
 #[inline(always)]
-fn wide_scaled(den: i128, h: i128) -> i128
+pub(crate) fn wide_scaled(den: i128, h: i128) -> i128
     requires { unsigned_abs (den *ℤ h) < 2 ^ 127 }
     ensures { result ≡ den *ℤ h }
 {
