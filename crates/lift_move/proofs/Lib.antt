@@ -3,3 +3,5 @@ pub mod Complete
 pub mod Lifted
 pub mod Found
 pub mod SegmentLaws
+pub mod Widths
+pub mod MoveFormed

@@ -1,3 +1,4 @@
 pub mod Segments
 pub mod Moves
 pub mod Laws
+pub mod MoveText
