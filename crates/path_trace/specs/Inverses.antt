@@ -1,8 +1,8 @@
 -- The inverse of a cell's differences, over a number.
 use Rattle.std.specs.Prelude.{◌≡◌, ℕ, zero, suc, ◌*◌, ◌<◌, List, length, ℤ, pos, ◌<ℤ◌}
 use Rattle.int_vectors.specs.Vectors.{sub, dot}
-use Rattle.cayley.specs.Problems.{Problem, point_at}
-use Rattle.cayley.specs.Cells.{Cell}
+use Rattle.cayley.specs.Problems.{Problem, IsProblem, point_at}
+use Rattle.cayley.specs.Cells.{Cell, IsOf, IsIndependent}
 use Rattle.cayley.specs.Dependencies.{support_at, pair_at}
 use Rattle.path_trace.specs.Matrices.{column}
 
@@ -23,3 +23,7 @@ pub record IsInverseOver (p : Problem) (cell : Cell) (g : ℤ) (matrix : List �
   pub positive : pos 0 <ℤ g
   pub long : length matrix ≡ p.dimension * p.dimension
   pub product : (i k : ℕ) → i < p.dimension → k < p.dimension → dot (pair_difference p cell i) (column p.dimension k p.dimension matrix) ≡ in_identity g i k
+
+-- a cell whose differences have such a matrix is independent
+abbrev pub IndependentLaw : Type 0
+IndependentLaw = (p : Problem) (cell : Cell) (g : ℤ) (matrix : List ℤ) → IsProblem p → IsOf p cell → IsInverseOver p cell g matrix → IsIndependent p cell
