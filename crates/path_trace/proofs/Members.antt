@@ -1,15 +1,14 @@
 -- the cells of preorders are those behind the cells with which they begin
-use Rattle.std.proofs.Common.{◌≡◌, ◌⊎◌, List, [], ◌∷◌, ◌++◌, refl, sym, subst, inl, inr}
-use Rattle.std.specs.Prelude.{◌↔◌, Contains}
+use Rattle.std.proofs.Common.{List, [], ◌∷◌, refl, sym, subst, inl, inr}
 use Rattle.cayley.specs.Problems.{Problem}
-use Rattle.cayley.specs.Cells.{Cell, IsListOf}
+use Rattle.cayley.specs.Cells.{Cell}
 use Rattle.cayley.specs.Parents.{IsParent, InChain}
 use Rattle.cayley.specs.Parents.InChain.{here, up}
 use Rattle.cayley.proofs.Searching.Chains.{chain_trans}
 use Rattle.cayley.proofs.Searching.Listing.{Has}
 use Rattle.cayley.proofs.Searching.Members.{has_contains, contains_has, has_left, has_right, has_either}
 use Rattle.cayley.proofs.Searching.Shares.{list_has, has_list}
-use Rattle.path_trace.specs.Preorders.{ArePreorders, IsPreorder, PreorderLaw}
+use Rattle.path_trace.specs.Preorders.{ArePreorders, PreorderLaw}
 use Rattle.path_trace.specs.Preorders.ArePreorders.{none, next}
 
 -- the first cell of its chain among those with which the preorders begin

@@ -1,0 +1,6 @@
+mod RowSteps
+mod Matrices
+mod Inverses
+mod FurtherPoints
+mod Walks
+mod Ends
