@@ -9,10 +9,6 @@ use Rattle.branch_pool.specs.declared.rule.SeatView.{SeatView}
 use Rattle.branch_pool.specs.Rule.{view_of}
 use Rattle.branch_pool.specs.Parts.{keeps, worker_views, pass_views}
 
-pub same_range : {X : Type 0} (f h : ℕ → X) (a n : ℕ) → ((k : ℕ) → f k ≡ h k) → map f (range_with_len a n) ≡ map h (range_with_len a n)
-same_range f h a zero same = refl
-same_range f h a (suc n) same = rw (same a) (ap (λ l. h a ∷ l) (same_range f h (a + 1) n same))
-
 later_range : {X : Type 0} (f h : ℕ → X) (a b n : ℕ) → b < a → ((k : ℕ) → k ≢ b → f k ≡ h k) → map f (range_with_len a n) ≡ map h (range_with_len a n)
 later_range f h a b zero lt same = refl
 later_range f h a b (suc n) lt same = rw (same a (λ e. absurd (omega (arith, e)))) (ap (λ l. h a ∷ l) (later_range f h (a + 1) b n (omega arith) same))
@@ -43,12 +39,6 @@ take_snoc xs n d lt = let z : n + 1 ≡ suc n = omega arith in rw z (take_more x
 
 keeps_other : (m at k : ℕ) → k ≢ at + 1 → keeps m at k ≡ keeps m (at + 1) k
 keeps_other m at k h = grind (arith, nat_tests)
-
-pub keeps_own : (m k : ℕ) → keeps m m k ≡ keeps m (m + 1) k
-keeps_own m k = grind (arith, nat_tests)
-
-pub keeps_less : (m at : ℕ) → at ≢ m → keeps m at (at + 1) - 1 ≡ keeps m (at + 1) (at + 1)
-keeps_less m at h = grind (arith, nat_tests)
 
 pub keeps_more : (m at : ℕ) → at ≢ m → at < 64 → m < 64 → 1 < keeps m at (at + 1)
 keeps_more m at h lt most = grind (arith, nat_tests)

@@ -91,9 +91,6 @@ fresh_list F list list' s m k m' n lt at next more is old =
 abbrev P : Type 0 → Type 0
 P B = Pass B (SeatView B) Global
 
-unless_own : ℕ → ℕ → ℕ
-unless_own number k = cond (k == number) 0 1
-
 -- a pass with a part has the number of seats
 with_part : (b : Bool) (n : ℕ) → 0 < cond b 0 1 → cond b 0 n ≡ n
 with_part true n some_part = absurd (let h : 0 < 0 = some_part in omega (arith, h))

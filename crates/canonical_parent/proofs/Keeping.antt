@@ -11,15 +11,15 @@ use Rattle.cayley.specs.Dependencies.{pair_at, number_at}
 use Rattle.cayley.specs.Flips.{IsLeastPredecessor}
 use Rattle.cayley.specs.FlipRules.{PastWhere}
 use Rattle.cayley.proofs.Flipping.FlipChildren.{children_law}
-use Rattle.flip_rule.specs.Signs.{HaveSigns}
+use Rattle.cayley.specs.Signs.{HaveSigns}
 use Rattle.flip_rule.specs.Rules.{IsNewPoint, IsSuccessor}
 use Rattle.flip_rule.specs.Walls.{IsWall}
-use Rattle.flip_rule.proofs.NumberSigns.{sign_of, minus_not_plus, zero_not_plus}
+use Rattle.flip_rule.proofs.NumberSigns.{minus_not_plus, zero_not_plus}
 use Rattle.flip_rule.proofs.Pairs.{pair_is}
 use Rattle.flip_rule.proofs.Rules.{numbers_of, have_signs, successor_is, predecessor_is, least_by}
 use Rattle.canonical_parent.specs.Least.{IsLeast}
 
-past_is : (s : Sign) (x c : ℕ) → PastWhere (sign_of s) x c ↔ (s ≡ Plus → x < c)
+past_is : (s : Sign) (x c : ℕ) → PastWhere s x c ↔ (s ≡ Plus → x < c)
 past_is Minus x c = ((λ h e. absurd (minus_not_plus e)), (λ h. tt))
 past_is Zero x c = ((λ h e. absurd (zero_not_plus e)), (λ h. tt))
 past_is Plus x c = ((λ h e. h), (λ h. h refl))

@@ -1,24 +1,27 @@
 -- an exchange gives the inverse of the new rows
-use Rattle.std.proofs.Common.{◌≡◌, ◌≢◌, ℕ, zero, suc, ◌*◌, ◌<◌, unsigned_abs, ℤ, pos, negsuc, ◌+ℤ◌, ◌-ℤ◌, ◌*ℤ◌, ◌<ℤ◌, List, [], ◌∷◌, length, map, set, arith, refl, sym, ap, ap₂, subst, ◌∙◌, inl, inr, length-set}
+use Rattle.std.proofs.Common.{◌≡◌, ◌≢◌, ℕ, zero, suc, ◌*◌, ◌<◌, unsigned_abs, ℤ, pos, ◌+ℤ◌, ◌-ℤ◌, ◌*ℤ◌, ◌<ℤ◌, List, [], ◌∷◌, length, map, set, arith, refl, sym, ap, ap₂, subst, ◌∙◌, inl, inr, length-set}
 use Prim.Native.Nat.{◌∣◌}
 use Rattle.std.proofs.Math.IntN.{*ℤ-zero}
-use Rattle.std.proofs.Math.Nat.{one-dvd, mul-dvd-mul_left, dvd_of_mul-dvd-mul_left}
+use Rattle.std.proofs.Math.Nat.{mul-dvd-mul_left}
 use Rattle.std.proofs.lemmas.Bool.{cases_eq}
 use Rattle.std.proofs.lemmas.Int.{ints, unsigned_abs-mul}
 use Rattle.std.proofs.lemmas.List.{get_or-set_same, get_or-set_other, get_or-map, length-map}
-use Rattle.std.proofs.lemmas.Nat.Gcd.{dvd_antisymm}
-use Rattle.wide_int.proofs.Order.{sign_cases, mul_pos_neg_ℤ, mul_cancel}
+use Rattle.wide_int.proofs.Order.{mul_cancel, mul_pos_ℤ}
 use Rattle.wide_int.proofs.Ring.{as_D, Ds, same_D}
+use Rattle.wide_int.proofs.Signed.{abs_positive}
 use Rattle.int_vectors.specs.Contents.{DividesEach}
 use Rattle.int_vectors.specs.RowSteps.{eliminated}
-use Rattle.int_vectors.specs.Vectors.{Each, IsZero, at, dot, scale, IsOrthogonal}
+use Rattle.int_vectors.specs.Vectors.{Each, IsZero, at, dot, scale, IsOrthogonal, row_at}
+use Rattle.int_vectors.proofs.Entries.{length-scale, at-scale}
+use Rattle.int_vectors.proofs.TakingOff.{length-eliminated}
 use Rattle.reduced_rows.specs.Carried.{unit}
-use Rattle.cayley.proofs.Algebra.ScaledInverse.{dot-nil, dot-scale, dot-zero, length-scale}
+use Rattle.reduced_rows.proofs.Picking.{each_at}
+use Rattle.cayley.proofs.Algebra.ScaledInverse.{dot-nil, dot-scale, dot-zero}
 use Rattle.inner_normal.specs.Inverses.{Inverse}
+use Rattle.inner_normal.proofs.CommonFactors.{one_left, positive_other}
 use Rattle.carried_inverse.specs.Exchanges.{combined, IsTurned, IsExchanged, IsDivisorOf}
-use Rattle.carried_inverse.specs.Systems.{line, Inverts, IsLowest, IsScaledInverse}
-use Rattle.carried_inverse.proofs.ColumnSteps.{each_at, length-combined}
-use Rattle.carried_inverse.proofs.Turning.{at-scale}
+use Rattle.carried_inverse.specs.Systems.{Inverts, IsLowest, IsScaledInverse}
+use Rattle.carried_inverse.proofs.ColumnSteps.{length-combined}
 
 pub unit_same : (i : ℕ) → unit i i ≡ pos 1
 unit_same zero = refl
@@ -29,12 +32,6 @@ unit_other zero zero n = absurd (n refl)
 unit_other zero (suc k) n = refl
 unit_other (suc i) zero n = refl
 unit_other (suc i) (suc k) n = unit_other i k (λ e. n (ap suc e))
-
-length-eliminated : (p f : ℤ) (xs ys : List ℤ) → length xs ≡ length ys → length (eliminated p f xs ys) ≡ length xs
-unfolding eliminated
-length-eliminated p f [] ys e = refl
-length-eliminated p f (x ∷ xs) [] e = absurd (omega arith)
-length-eliminated p f (x ∷ xs) (y ∷ ys) e = ap suc (length-eliminated p f xs ys (omega arith))
 
 dot-eliminated : (r : List ℤ) (p f : ℤ) (xs ys : List ℤ) → length xs ≡ length ys → dot r (eliminated p f xs ys) ≡ p *ℤ dot r xs -ℤ f *ℤ dot r ys
 unfolding eliminated
@@ -50,7 +47,7 @@ dot-eliminated (z ∷ r) p f (x ∷ xs) (y ∷ ys) e = rw (dot-eliminated r p f 
     step : (z p f x y s t : ℤ) → z *ℤ (p *ℤ x -ℤ f *ℤ y) +ℤ (p *ℤ s -ℤ f *ℤ t) ≡ p *ℤ (z *ℤ x +ℤ s) -ℤ f *ℤ (z *ℤ y +ℤ t)
     step z p f x y s t = rw (as_D z, as_D p, as_D f, as_D x, as_D y, as_D s, as_D t) (simp Ds (same_D _ _ _ _ (omega arith)))
 
-combined_line : (p : ℤ) (fs : List ℤ) (xs : List (List ℤ)) (by : List ℤ) (k : ℕ) → k < length fs → k < length xs → line (combined p fs xs by) k ≡ eliminated p (at fs k) (line xs k) by
+combined_line : (p : ℤ) (fs : List ℤ) (xs : List (List ℤ)) (by : List ℤ) (k : ℕ) → k < length fs → k < length xs → row_at (combined p fs xs by) k ≡ eliminated p (at fs k) (row_at xs k) by
 unfolding combined
 combined_line p [] xs by k a b = absurd (omega (arith, a))
 combined_line p (f ∷ fs) [] by k a b = absurd (omega (arith, b))
@@ -63,7 +60,7 @@ each_combined n p [] xs by l e = tt
 each_combined n p (f ∷ fs) [] by l e = tt
 each_combined n p (f ∷ fs) (x ∷ xs) by l e = (length-eliminated p f x by (e.0 ∙ sym l) ∙ e.0, each_combined n p fs xs by l e.1)
 
-scaled_line : (g : ℤ) (xs : List (List ℤ)) (k : ℕ) → line (map (scale g) xs) k ≡ scale g (line xs k)
+scaled_line : (g : ℤ) (xs : List (List ℤ)) (k : ℕ) → row_at (map (scale g) xs) k ≡ scale g (row_at xs k)
 scaled_line g [] k = refl
 scaled_line g (x ∷ xs) zero = refl
 scaled_line g (x ∷ xs) (suc k) = scaled_line g xs k
@@ -116,12 +113,12 @@ module _ (n i : ℕ) (rows columns : List (List ℤ)) (den : ℤ) (row us : List
   fs = set shares i (at shares i -ℤ factor)
 
   abbrev pub by : List ℤ
-  by = line columns i
+  by = row_at columns i
 
-  long_at : (k : ℕ) → k < n → length (line columns k) ≡ n
+  long_at : (k : ℕ) → k < n → length (row_at columns k) ≡ n
   long_at k lt = each_at (λ x. length x ≡ n) columns k [] (omega (arith, lt, count)) long
 
-  share_is : (k : ℕ) → k < n → at shares k ≡ t.sign *ℤ dot row (line columns k)
+  share_is : (k : ℕ) → k < n → at shares k ≡ t.sign *ℤ dot row (row_at columns k)
   share_is k lt =
       ap (λ l. at l k) t.all ∙ at-scale t.sign us k
       ∙ ap (λ z. t.sign *ℤ z) (ap (λ l. at l k) are ∙ get_or-map (dot row) columns k [] (pos 0) (omega (arith, lt, count)))
@@ -132,44 +129,44 @@ module _ (n i : ℕ) (rows columns : List (List ℤ)) (den : ℤ) (row us : List
   long_fs : length fs ≡ n
   long_fs = length-set shares i (at shares i -ℤ factor) ∙ long_shares
 
-  product : (r : List ℤ) (k : ℕ) → k < n → dot r (line (combined p fs columns by) k) ≡ p *ℤ dot r (line columns k) -ℤ at fs k *ℤ dot r by
+  product : (r : List ℤ) (k : ℕ) → k < n → dot r (row_at (combined p fs columns by) k) ≡ p *ℤ dot r (row_at columns k) -ℤ at fs k *ℤ dot r by
   product r k lt =
       ap (dot r) (combined_line p fs columns by k (omega (arith, lt, long_fs)) (omega (arith, lt, count)))
-      ∙ dot-eliminated r p (at fs k) (line columns k) by (long_at k lt ∙ sym (long_at i below))
+      ∙ dot-eliminated r p (at fs k) (row_at columns k) by (long_at k lt ∙ sym (long_at i below))
 
-  new_row : (k : ℕ) → k < n → dot row (line (combined p fs columns by) k) ≡ (den *ℤ p) *ℤ unit i k
+  new_row : (k : ℕ) → k < n → dot row (row_at (combined p fs columns by) k) ≡ (den *ℤ p) *ℤ unit i k
   new_row k lt = product row k lt ∙ elim (cases_eq k i) [
     | inl e ↦ own e
     | inr o ↦ other o
   ]
     where
-      own : k ≡ i → p *ℤ dot row (line columns k) -ℤ at fs k *ℤ dot row by ≡ (den *ℤ p) *ℤ unit i k
+      own : k ≡ i → p *ℤ dot row (row_at columns k) -ℤ at fs k *ℤ dot row by ≡ (den *ℤ p) *ℤ unit i k
       own e =
-          ap (λ m. p *ℤ dot row (line columns m) -ℤ at fs m *ℤ dot row by) e
+          ap (λ m. p *ℤ dot row (row_at columns m) -ℤ at fs m *ℤ dot row by) e
           ∙ ap₂ (λ a f. a *ℤ dot row by -ℤ f *ℤ dot row by) (share_is i below)
           (get_or-set_same shares i (at shares i -ℤ factor) (pos 0) (omega (arith, below, long_shares)) ∙ ap₂ (λ a b. a -ℤ b) (share_is i below) t.turned)
           ∙ at_own t.sign (dot row by) den
           ∙ ap₂ (λ a b. (den *ℤ a) *ℤ b) (sym (share_is i below)) (sym (unit_same i) ∙ ap (unit i) (sym e))
 
-      other : k ≢ i → p *ℤ dot row (line columns k) -ℤ at fs k *ℤ dot row by ≡ (den *ℤ p) *ℤ unit i k
+      other : k ≢ i → p *ℤ dot row (row_at columns k) -ℤ at fs k *ℤ dot row by ≡ (den *ℤ p) *ℤ unit i k
       other o =
-          ap₂ (λ a f. a *ℤ dot row (line columns k) -ℤ f *ℤ dot row by) (share_is i below) (get_or-set_other shares i k (at shares i -ℤ factor) (pos 0) o ∙ share_is k lt)
-          ∙ at_other t.sign (dot row by) (dot row (line columns k)) (den *ℤ p)
+          ap₂ (λ a f. a *ℤ dot row (row_at columns k) -ℤ f *ℤ dot row by) (share_is i below) (get_or-set_other shares i k (at shares i -ℤ factor) (pos 0) o ∙ share_is k lt)
+          ∙ at_other t.sign (dot row by) (dot row (row_at columns k)) (den *ℤ p)
           ∙ ap (λ z. (den *ℤ p) *ℤ z) (sym (unit_other i k (λ e. o (sym e))))
 
-  kept_row : (j k : ℕ) → j < n → k < n → j ≢ i → dot (line rows j) (line (combined p fs columns by) k) ≡ (den *ℤ p) *ℤ unit j k
+  kept_row : (j k : ℕ) → j < n → k < n → j ≢ i → dot (row_at rows j) (row_at (combined p fs columns by) k) ≡ (den *ℤ p) *ℤ unit j k
   kept_row j k lj lk o =
-      product (line rows j) k lk
+      product (row_at rows j) k lk
       ∙ ap₂ (λ a b. p *ℤ a -ℤ at fs k *ℤ b) (inv j k lj lk) (inv j i lj below ∙ ap (λ z. den *ℤ z) (unit_other j i o))
       ∙ old_row p (at fs k) den (unit j k)
 
   pub multiples_invert : Inverts n (set rows i row) (den *ℤ p) (combined p fs columns by)
   multiples_invert j k lj lk = elim (cases_eq j i) [
     | inl e ↦
-        ap (λ m. dot (line (set rows i row) m) (line (combined p fs columns by) k)) e
-        ∙ ap (λ r. dot r (line (combined p fs columns by) k)) (get_or-set_same rows i row [] (omega (arith, below, many)))
+        ap (λ m. dot (row_at (set rows i row) m) (row_at (combined p fs columns by) k)) e
+        ∙ ap (λ r. dot r (row_at (combined p fs columns by) k)) (get_or-set_same rows i row [] (omega (arith, below, many)))
         ∙ new_row k lk ∙ ap (λ m. (den *ℤ p) *ℤ unit m k) (sym e)
-    | inr o ↦ ap (λ r. dot r (line (combined p fs columns by) k)) (get_or-set_other rows i j row [] o) ∙ kept_row j k lj lk o
+    | inr o ↦ ap (λ r. dot r (row_at (combined p fs columns by) k)) (get_or-set_other rows i j row [] o) ∙ kept_row j k lj lk o
   ]
 
   pub multiples_long : Each (combined p fs columns by) (λ x. length x ≡ n)
@@ -181,9 +178,9 @@ module _ (n i : ℕ) (rows columns : List (List ℤ)) (den : ℤ) (row us : List
 -- division
 pub divided_inverts : (n : ℕ) (rows multiples made : List (List ℤ)) (multiple over g : ℤ) → pos 0 <ℤ g → multiples ≡ map (scale g) made → g *ℤ over ≡ multiple → Inverts n rows multiple multiples → Inverts n rows over made
 divided_inverts n rows multiples made multiple over g p e f inv j k lj lk =
-    mul_cancel (dot (line rows j) (line made k)) (over *ℤ unit j k) g (λ z. omega (arith, ints, p, z))
-    (left g (dot (line rows j) (line made k))
-    ∙ sym (ap (λ l. dot (line rows j) (line l k)) e ∙ ap (dot (line rows j)) (scaled_line g made k) ∙ dot-scale (line rows j) g (line made k))
+    mul_cancel (dot (row_at rows j) (row_at made k)) (over *ℤ unit j k) g (λ z. omega (arith, ints, p, z))
+    (left g (dot (row_at rows j) (row_at made k))
+    ∙ sym (ap (λ l. dot (row_at rows j) (row_at l k)) e ∙ ap (dot (row_at rows j)) (scaled_line g made k) ∙ dot-scale (row_at rows j) g (row_at made k))
     ∙ inv j k lj lk ∙ ap (λ z. z *ℤ unit j k) (sym f) ∙ right g over (unit j k))
   where
     left : (g x : ℤ) → x *ℤ g ≡ g *ℤ x
@@ -204,35 +201,12 @@ divided_all : (d g : ℕ) (k : ℤ) (xs : List (List ℤ)) → unsigned_abs k �
 divided_all d g k [] e h = tt
 divided_all d g k (x ∷ xs) e h = (divided_each d g k x e h.0, divided_all d g k xs e h.1)
 
-pub one_left : (g d : ℕ) → 0 < g → g * d ∣ g → d ≡ 1
-one_left g d p h =
-    let e : g * 1 ≡ g = omega arith in
-    dvd_antisymm (dvd_of_mul-dvd-mul_left {k = g} d {n = 1} p (subst (λ n. g * d ∣ n) (sym e) h)) (one-dvd d)
-
-abs_above : (k : ℤ) → pos 0 <ℤ k → 0 < unsigned_abs k
-abs_above (pos n) h = omega (arith, ints)
-abs_above (negsuc n) h = absurd (omega (arith, ints))
-
 pub divided_lowest : (multiples made : List (List ℤ)) (multiple over g : ℤ) → pos 0 <ℤ g → IsDivisorOf (unsigned_abs multiple) multiples (unsigned_abs g) → multiples ≡ map (scale g) made → g *ℤ over ≡ multiple → IsLowest over made
 divided_lowest multiples made multiple over g p h e f d a b =
-    one_left (unsigned_abs g) d (abs_above g p)
+    one_left (unsigned_abs g) d (abs_positive g p)
     (h.2 (unsigned_abs g * d)
     (subst (λ z. unsigned_abs g * d ∣ unsigned_abs z) f (subst (λ z. unsigned_abs g * d ∣ z) (sym (unsigned_abs-mul g over)) (mul-dvd-mul_left d (unsigned_abs g) a)))
     (subst (λ xs. Each xs (DividesEach (unsigned_abs g * d))) (sym e) (divided_all d (unsigned_abs g) g made refl b)))
-
-pub positive_left : (den d k : ℤ) → pos 0 <ℤ den → pos 0 <ℤ k → k *ℤ d ≡ den → pos 0 <ℤ d
-positive_left den d k h p e =
-    sign_cases d
-    (λ n. absurd (let m = mul_pos_neg_ℤ k d p n in omega (arith, ints, m, e, h)))
-    (λ z. absurd (let m : k *ℤ d ≡ pos 0 = rw z (*ℤ-zero k) in omega (arith, ints, m, e, h)))
-    (λ q. q)
-
-pub product_above : (a b : ℤ) → pos 0 <ℤ a → pos 0 <ℤ b → pos 0 <ℤ (a *ℤ b)
-product_above (pos zero) b h k = absurd (omega (arith, ints, h))
-product_above (negsuc m) b h k = absurd (omega (arith, ints, h))
-product_above (pos (suc m)) (pos zero) h k = absurd (omega (arith, ints, k))
-product_above (pos (suc m)) (negsuc o) h k = absurd (omega (arith, ints, k))
-product_above (pos (suc m)) (pos (suc o)) h k = omega (arith, ints)
 
 -- what an exchange of columns leaves as it was
 pub made_long : (n i : ℕ) (den : ℤ) (us : List ℤ) (columns made : List (List ℤ)) (over : ℤ) → i < n → length columns ≡ n → length us ≡ n → Each columns (λ x. length x ≡ n) → IsExchanged i den us columns over made
@@ -242,12 +216,12 @@ made_long n i den us columns made over below count many long x =
     let l : length fs ≡ length columns = length-set x.shares i (at x.shares i -ℤ x.factor) ∙ ap length x.turned.all ∙ length-scale x.turned.sign us ∙ many ∙ sym count in
     let e = sym x.combination ∙ x.columns in
     let lb = each_at (λ x. length x ≡ n) columns i [] (omega (arith, below, count)) long in (
-      sym (length-map made (scale x.divisor)) ∙ ap length (sym e) ∙ length-combined (at x.shares i) fs columns (line columns i) l ∙ count,
-      each_unscaled n x.divisor made (subst (λ xs. Each xs (λ x. length x ≡ n)) e (each_combined n (at x.shares i) fs columns (line columns i) lb long)),
+      sym (length-map made (scale x.divisor)) ∙ ap length (sym e) ∙ length-combined (at x.shares i) fs columns (row_at columns i) l ∙ count,
+      each_unscaled n x.divisor made (subst (λ xs. Each xs (λ x. length x ≡ n)) e (each_combined n (at x.shares i) fs columns (row_at columns i) lb long)),
     )
 
 pub over_above : (i : ℕ) (den : ℤ) (us : List ℤ) (columns made : List (List ℤ)) (over : ℤ) → pos 0 <ℤ den → IsExchanged i den us columns over made → pos 0 <ℤ over
-over_above i den us columns made over p x = positive_left (den *ℤ at x.shares i) over x.divisor (product_above den (at x.shares i) p x.turned.positive) x.positive x.denominator
+over_above i den us columns made over p x = positive_other (den *ℤ at x.shares i) over x.divisor (mul_pos_ℤ den (at x.shares i) p x.turned.positive) x.positive x.denominator
 
 -- the whole of it
 pub exchange_inverts : (n i : ℕ) (rows : List (List ℤ)) (old new : Inverse) (row us : List ℤ) → i < n → length rows ≡ n → us ≡ map (dot row) old.columns → IsExchanged i old.den us old.columns new.den new.columns
@@ -264,22 +238,22 @@ exchange_inverts n i rows old new row us below many are x h =
     }
 
 -- a row whose product with its column is zero
-orthogonal_from : (rows : List (List ℤ)) (v : List ℤ) → ((j : ℕ) → j < length rows → dot (line rows j) v ≡ pos 0) → IsOrthogonal rows v
+orthogonal_from : (rows : List (List ℤ)) (v : List ℤ) → ((j : ℕ) → j < length rows → dot (row_at rows j) v ≡ pos 0) → IsOrthogonal rows v
 orthogonal_from [] v f = tt
 orthogonal_from (r ∷ rows) v f = (f 0 (omega arith), orthogonal_from rows v (λ j l. f (suc j) (omega (arith, l))))
 
-pub dependent_rows : (n i : ℕ) (rows : List (List ℤ)) (a : Inverse) (row : List ℤ) → i < n → length rows ≡ n → dot row (line a.columns i) ≡ pos 0 → IsScaledInverse n rows a
-    → IsOrthogonal (set rows i row) (line a.columns i) × ¬ (IsZero (line a.columns i))
+pub dependent_rows : (n i : ℕ) (rows : List (List ℤ)) (a : Inverse) (row : List ℤ) → i < n → length rows ≡ n → dot row (row_at a.columns i) ≡ pos 0 → IsScaledInverse n rows a
+    → IsOrthogonal (set rows i row) (row_at a.columns i) × ¬ (IsZero (row_at a.columns i))
 dependent_rows n i rows a row below many zero_product h =
-    (orthogonal_from (set rows i row) (line a.columns i) each, λ z. (let e = sym (dot-zero (line rows i) (line a.columns i) z) ∙ h.inverts i i below below ∙ ap (λ u. a.den *ℤ u) (unit_same i) in none a.den h.positive e))
+    (orthogonal_from (set rows i row) (row_at a.columns i) each, λ z. (let e = sym (dot-zero (row_at rows i) (row_at a.columns i) z) ∙ h.inverts i i below below ∙ ap (λ u. a.den *ℤ u) (unit_same i) in none a.den h.positive e))
   where
     none : (d : ℤ) → pos 0 <ℤ d → pos 0 ≡ d *ℤ pos 1 → ⊥
     none d p e = omega (arith, ints, p, e)
 
-    each : (j : ℕ) → j < length (set rows i row) → dot (line (set rows i row) j) (line a.columns i) ≡ pos 0
+    each : (j : ℕ) → j < length (set rows i row) → dot (row_at (set rows i row) j) (row_at a.columns i) ≡ pos 0
     each j l = elim (cases_eq j i) [
-      | inl e ↦ ap (λ m. dot (line (set rows i row) m) (line a.columns i)) e ∙ ap (λ r. dot r (line a.columns i)) (get_or-set_same rows i row [] (omega (arith, below, many))) ∙ zero_product
+      | inl e ↦ ap (λ m. dot (row_at (set rows i row) m) (row_at a.columns i)) e ∙ ap (λ r. dot r (row_at a.columns i)) (get_or-set_same rows i row [] (omega (arith, below, many))) ∙ zero_product
       | inr o ↦
-          ap (λ r. dot r (line a.columns i)) (get_or-set_other rows i j row [] o)
+          ap (λ r. dot r (row_at a.columns i)) (get_or-set_other rows i j row [] o)
           ∙ h.inverts j i (let m = length-set rows i row in omega (arith, l, m, many)) below ∙ ap (λ u. a.den *ℤ u) (unit_other j i o) ∙ *ℤ-zero a.den
     ]

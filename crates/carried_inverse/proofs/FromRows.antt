@@ -5,40 +5,33 @@ use Rattle.std.proofs.lemmas.Int.{ints}
 use Rattle.std.proofs.lemmas.List.{get_or-map}
 use Rattle.wide_int.proofs.Order.{mul_cancel}
 use Rattle.wide_int.proofs.Ring.{as_D, Ds, same_D}
-use Rattle.int_vectors.specs.Vectors.{Each, at, at_place, dot, weigh, scale, sub}
+use Rattle.int_vectors.specs.Vectors.{Each, at, at_place, dot, sub, row_at}
 use Rattle.int_vectors.proofs.Weighing.{weigh-scale}
 use Rattle.reduced_rows.specs.Carried.{unit, HaveUnits}
 use Rattle.reduced_rows.specs.CellRefusals.{IsEliminated}
 use Rattle.reduced_rows.specs.Denominators.{lcm_from}
-use Rattle.reduced_rows.specs.Solutions.{scaled_column}
 use Rattle.reduced_rows.specs.Spans.{IsReducedOf}
-use Rattle.cayley.specs.Cells.{Cell, EachPair, IsOf, IsIndependent}
+use Rattle.reduced_rows.proofs.Picking.{each_at}
+use Rattle.cayley.specs.Cells.{Cell, IsOf, IsIndependent}
 use Rattle.cayley.specs.Problems.{Point, Problem, IsProblem, point_at}
-use Rattle.cayley.specs.Rows.{edge_rows}
-use Rattle.cayley.proofs.OneCell.CellNormals.{edges, kills_to, long-edges}
+use Rattle.cayley.specs.Rows.{edge_rows, edges}
+use Rattle.cayley.proofs.OneCell.CellNormals.{kills_to, long-edges, length-edges}
 use Rattle.cayley.proofs.OneCell.CellRows.{rows_independent, rows_width}
 use Rattle.cayley.proofs.Algebra.Kernel as kernel
-use Rattle.cayley.proofs.Algebra.Kernel.{Solves, solve, Kills}
-use Rattle.cayley.proofs.Algebra.ScaledInverse.{dot-nil}
-use Rattle.inner_normal.specs.Inverses.{inverse_of, scaled_columns}
+use Rattle.cayley.proofs.Algebra.Kernel.{Solves, solve}
+use Rattle.cayley.proofs.Algebra.RowDependencies.{weigh-solves, dot-place}
+use Rattle.inner_normal.specs.Inverses.{inverse_of}
 use Rattle.inner_normal.specs.Coefficients.{products}
-use Rattle.inner_normal.proofs.Meaning.{length-columns, reduced_of}
+use Rattle.inner_normal.proofs.Meaning.{length-columns, reduced_of, columns_long}
 use Rattle.inner_normal.proofs.RowUnits.{rows_units}
 use Rattle.inner_normal.proofs.ScaledSums.{scaled_dependency}
-use Rattle.carried_inverse.specs.Systems.{line, Inverts, differences, IsInverseOfCell}
-use Rattle.carried_inverse.proofs.ColumnSteps.{each_at}
+use Rattle.carried_inverse.specs.Systems.{Inverts, IsInverseOfCell}
 use Rattle.carried_inverse.proofs.LowestRows.{inverse_lowest}
 
-pub differences_are : (supports : List (List Point)) (cell : Cell) → differences supports cell ≡ edges supports cell
+pub differences_are : (supports : List (List Point)) (cell : Cell) → edges supports cell ≡ edges supports cell
 differences_are [] cell = refl
 differences_are (s ∷ supports) [] = refl
 differences_are (s ∷ supports) (pair ∷ cell) = ap (λ l. sub (point_at s pair.1).coordinates (point_at s pair.0).coordinates ∷ l) (differences_are supports cell)
-
-pub edges_count : (supports : List (List Point)) (cell : Cell) (P : List Point → ℕ → ℕ → Type 0) → EachPair supports cell P → length (edges supports cell) ≡ length supports
-edges_count [] [] P e = refl
-edges_count [] (pair ∷ cell) P e = absurd e
-edges_count (s ∷ supports) [] P e = absurd e
-edges_count (s ∷ supports) (pair ∷ cell) P e = ap suc (edges_count supports cell P e.1)
 
 pub edges_independent : (p : Problem) (cell : Cell) → IsOf p cell → IsIndependent p cell → kernel.Independent p.dimension (edges p.supports cell)
 edges_independent p cell of ind v l k = ind v l (kills_to p.supports cell v _ of k)
@@ -55,53 +48,16 @@ unit_turn zero (suc i) = refl
 unit_turn (suc m) zero = refl
 unit_turn (suc m) (suc i) = unit_turn m i
 
-solves_at : (rows : List (List ℤ)) (bs : List ℤ) (k : ℤ) (v : List ℤ) (i : ℕ) → i < length rows → Solves rows bs k v → dot (line rows i) v ≡ k *ℤ at bs i
+solves_at : (rows : List (List ℤ)) (bs : List ℤ) (k : ℤ) (v : List ℤ) (i : ℕ) → i < length rows → Solves rows bs k v → dot (row_at rows i) v ≡ k *ℤ at bs i
 solves_at [] bs k v i lt s = absurd (omega (arith, lt))
 solves_at (r ∷ rows) [] k v zero lt s = s.0 ∙ sym (*ℤ-zero k)
 solves_at (r ∷ rows) [] k v (suc i) lt s = solves_at rows [] k v i (omega (arith, lt)) s.1
 solves_at (r ∷ rows) (b ∷ bs) k v zero lt s = s.0
 solves_at (r ∷ rows) (b ∷ bs) k v (suc i) lt s = solves_at rows bs k v i (omega (arith, lt)) s.1
 
-weigh_solves : (ms : List ℤ) (rows : List (List ℤ)) (bs : List ℤ) (k : ℤ) (v : List ℤ) → length ms ≡ length rows → Solves rows bs k v → weigh ms rows (λ r. dot r v) ≡ k *ℤ dot ms bs
-weigh_solves [] [] bs k v e s = sym (*ℤ-zero k)
-weigh_solves [] (r ∷ rows) bs k v e s = absurd (omega (arith, e))
-weigh_solves (m ∷ ms) [] bs k v e s = absurd (omega (arith, e))
-weigh_solves (m ∷ ms) (r ∷ rows) [] k v e s = ap₂ (λ a b. m *ℤ a +ℤ b) s.0 (weigh_solves ms rows [] k v (omega (arith, e)) s.1 ∙ ap (λ z. k *ℤ z) (dot-nil ms)) ∙ none m k
-  where
-    none : (m k : ℤ) → m *ℤ pos 0 +ℤ k *ℤ pos 0 ≡ k *ℤ pos 0
-    none m k = omega (arith, ints)
-weigh_solves (m ∷ ms) (r ∷ rows) (b ∷ bs) k v e s = ap₂ (λ a b. m *ℤ a +ℤ b) s.0 (weigh_solves ms rows bs k v (omega (arith, e)) s.1) ∙ step m k b (dot ms bs)
-  where
-    step : (m k b d : ℤ) → m *ℤ (k *ℤ b) +ℤ k *ℤ d ≡ k *ℤ (m *ℤ b +ℤ d)
-    step m k b d = rw (as_D m, as_D k, as_D b, as_D d) (simp Ds (same_D _ _ _ _ (omega arith)))
-
-dot-place : (ms : List ℤ) (m : ℕ) → dot ms (at_place m (pos 1)) ≡ at ms m
-dot-place [] m = refl
-dot-place (x ∷ ms) zero = ap (λ z. x *ℤ pos 1 +ℤ z) (dot-nil ms) ∙ one x
-  where
-    one : (x : ℤ) → x *ℤ pos 1 +ℤ pos 0 ≡ x
-    one x = omega (arith, ints)
-dot-place (x ∷ ms) (suc m) = ap (λ z. x *ℤ pos 0 +ℤ z) (dot-place ms m) ∙ none x (at ms m)
-  where
-    none : (x y : ℤ) → x *ℤ pos 0 +ℤ y ≡ y
-    none x y = omega (arith, ints)
-
-length-column : (k j l : ℕ) (made : List (List ℤ)) → length (scaled_column k j l made) ≡ length made
-unfolding scaled_column
-length-column k j l [] = refl
-length-column k j l (row ∷ made) = ap suc (length-column k (suc j) l made)
-
-pub columns_long : (m off l : ℕ) (made : List (List ℤ)) → Each (scaled_columns m off l made) (λ column. length column ≡ length made)
-columns_long zero off l made = tt
-columns_long (suc m) off l made = (length-column off 0 l made, columns_long m (suc off) l made)
-
 length-products : (v : List ℤ) (columns : List (List ℤ)) → length (products v columns) ≡ length columns
 length-products v [] = refl
 length-products v (x ∷ columns) = ap suc (length-products v columns)
-
-length-scale : (k : ℤ) (xs : List ℤ) → length (scale k xs) ≡ length xs
-length-scale k [] = refl
-length-scale k (x ∷ xs) = ap suc (length-scale k xs)
 
 module _ (p : Problem) (cell : Cell) (well : IsProblem p) (of : IsOf p cell) (made : List (List ℤ)) (r : IsReducedOf p.dimension (edge_rows p cell) made) where
   abbrev pub den : ℤ
@@ -117,16 +73,16 @@ module _ (p : Problem) (cell : Cell) (well : IsProblem p) (of : IsOf p cell) (ma
   rows_long = long-edges p.dimension p.supports cell of well.points
 
   rows_many : length (edges p.supports cell) ≡ p.dimension
-  rows_many = edges_count p.supports cell _ of ∙ well.supports
+  rows_many = length-edges p.supports cell _ of ∙ well.supports
 
   pub inverse_inverts : Inverts p.dimension (edges p.supports cell) (inverse_of made).den (inverse_of made).columns
   inverse_inverts i m li lm =
       let s = solve p.dimension (edges p.supports cell) (at_place m (pos 1)) rows_many (edges_independent p cell of (rows_independent p cell well of r.independent)) in
-      let v = line (edges p.supports cell) i in
+      let v = row_at (edges p.supports cell) i in
       let lv = each_at (λ x. length x ≡ p.dimension) (edges p.supports cell) i [] (omega (arith, li, rows_many)) rows_long in
       let ms = products v (inverse_of made).columns in
       let e = scaled_dependency p cell well of made r v lv s.v s.long in
-      let w = weigh_solves ms (edges p.supports cell) (at_place m (pos 1)) s.k s.v (length-products v (inverse_of made).columns ∙ columns_count ∙ sym rows_many) s.solves ∙ ap (λ z. s.k *ℤ z) (dot-place ms m) in
+      let w = weigh-solves ms (edges p.supports cell) (at_place m (pos 1)) s.k s.v (length-products v (inverse_of made).columns ∙ columns_count ∙ sym rows_many) s.solves ∙ ap (λ z. s.k *ℤ z) (dot-place ms m) in
       let d = solves_at (edges p.supports cell) (at_place m (pos 1)) s.k s.v i (omega (arith, li, rows_many)) s.solves ∙ ap (λ z. s.k *ℤ z) (at-place m i ∙ unit_turn m i) in
       let f = weigh-scale (neg_ℤ (pos 1)) ms (edges p.supports cell) (λ r. dot r s.v) in
       let a = get_or-map (dot v) (inverse_of made).columns m [] (pos 0) (omega (arith, lm, columns_count)) in

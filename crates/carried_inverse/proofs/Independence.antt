@@ -1,11 +1,11 @@
 -- rows that have a scaled inverse are independent
-use Rattle.std.proofs.Common.{◌≡◌, ◌≢◌, ℕ, zero, suc, ◌<◌, ℤ, pos, ◌+ℤ◌, ◌-ℤ◌, ◌*ℤ◌, List, [], ◌∷◌, length, map, arith, refl, sym, ap, ap₂, subst, ◌∙◌, inl, inr}
+use Rattle.std.proofs.Common.{◌≡◌, ◌≢◌, ℕ, suc, ◌<◌, ℤ, pos, ◌+ℤ◌, ◌-ℤ◌, ◌*ℤ◌, List, [], ◌∷◌, length, map, arith, refl, sym, ap, ap₂, subst, ◌∙◌, inl, inr}
 use Rattle.std.proofs.Math.IntN.{*ℤ-zero}
 use Rattle.std.proofs.lemmas.Int.{ints}
-use Rattle.std.proofs.lemmas.Bool.{cases_lt}
 use Rattle.wide_int.proofs.Order.{zero_product, sign_cases}
-use Rattle.int_vectors.specs.Vectors.{Each, IsZero, at, comb, dot, weigh, sub}
+use Rattle.int_vectors.specs.Vectors.{IsZero, at, comb, dot, weigh, sub, row_at}
 use Rattle.int_vectors.proofs.Weighing.{weigh-zero}
+use Rattle.int_vectors.proofs.Entries.{entries, length-entries, entries_each, zero_below}
 use Rattle.cayley.specs.Cells.{Cell, EachPair, IsOf, IsIndependent}
 use Rattle.cayley.specs.Problems.{Point, Problem, IsProblem, HasSamePoints, point_at}
 use Rattle.cayley.proofs.OneCell.Unperturbed.{unranked, point_unranked, same_points, same_dimension, same_well, same_of}
@@ -13,39 +13,13 @@ use Rattle.inner_normal.specs.declared.moving.MovingNormal.{MovingNormal}
 use Rattle.inner_normal.specs.MovingNormals.{IsMovingNormal}
 use Rattle.cayley.proofs.Algebra.Dependence.{dependent}
 use Rattle.cayley.proofs.Algebra.Kernel as kernel
-use Rattle.cayley.proofs.Algebra.Kernel.{Kills}
+use Rattle.cayley.proofs.Algebra.Kernel.{Kills, kills_at}
 use Rattle.cayley.proofs.Algebra.ScaledInverse.{dot-comb, dot-zero, at-comb, length-comb}
+use Rattle.cayley.specs.Rows.{edges}
 use Rattle.inner_normal.specs.Inverses.{Inverse}
 use Rattle.carried_inverse.specs.Sums.{IsSum, base_falls, speed_falls}
-use Rattle.carried_inverse.specs.Systems.{line, IsScaledInverse, differences, IsInverseOfCell}
+use Rattle.carried_inverse.specs.Systems.{IsScaledInverse, IsInverseOfCell}
 use Rattle.carried_inverse.proofs.Normals.{weigh_unit, rows_shape, normal_by_inverse}
-
-zero_by_places : (xs : List ℤ) → ((e : ℕ) → e < length xs → at xs e ≡ pos 0) → IsZero xs
-zero_by_places [] f = tt
-zero_by_places (x ∷ xs) f = (f 0 (omega arith), zero_by_places xs (λ e lt. f (suc e) (omega (arith, lt))))
-
-kills_at : (rows : List (List ℤ)) (v : List ℤ) (j : ℕ) → j < length rows → Kills rows v → dot (line rows j) v ≡ pos 0
-kills_at [] v j lt k = absurd (omega (arith, lt))
-kills_at (r ∷ rows) v zero lt k = k.0
-kills_at (r ∷ rows) v (suc j) lt k = kills_at rows v j (omega (arith, lt)) k.1
-
--- the functions that read the entries below n
-entries : ℕ → List (List ℤ → ℤ)
-entries zero = []
-entries (suc n) = (λ x. at x n) ∷ entries n
-
-length-entries : (n : ℕ) → length (entries n) ≡ n
-unfolding entries
-length-entries zero = refl
-length-entries (suc n) = ap suc (length-entries n)
-
-entries_each : (n : ℕ) (P : (List ℤ → ℤ) → Type 0) → Each (entries n) P → (e : ℕ) → e < n → P (λ x. at x e)
-unfolding entries
-entries_each zero P h e lt = absurd (omega (arith, lt))
-entries_each (suc n) P h e lt = elim (cases_lt e n) [
-  | inl b ↦ entries_each n P h.1 e b
-  | inr b ↦ let same : n ≡ e = omega (arith, lt, b) in subst (λ (m : ℕ). P (λ x. at x m)) same h.0
-]
 
 module _ (n : ℕ) (rows : List (List ℤ)) (a : Inverse) (many : length rows ≡ n) (h : IsScaledInverse n rows a) (v : List ℤ) (long : length v ≡ n) (kills : Kills rows v) where
   from_numbers : (cs : List ℤ) → length cs ≡ suc (length a.columns) → ¬ (IsZero cs) → ((e : ℕ) → e < n → weigh cs (v ∷ a.columns) (λ x. at x e) ≡ pos 0) → IsZero v
@@ -54,16 +28,16 @@ module _ (n : ℕ) (rows : List (List ℤ)) (a : Inverse) (many : length rows �
       let count : length cs ≡ length a.columns = omega (arith, l) in
       let z = comb (c ∷ cs) (v ∷ a.columns) in
       let lz = length-comb (c ∷ cs) (v ∷ a.columns) n (long, h.long) in
-      let zero_sum = zero_by_places z (λ e lt. at-comb (c ∷ cs) (v ∷ a.columns) e ∙ k e (omega (arith, lt, lz))) in
-      let others : IsZero cs = zero_by_places cs (λ j lt. number j (let m = h.count in omega (arith, lt, count, m)) zero_sum count) in
+      let zero_sum = zero_below z (λ e lt. at-comb (c ∷ cs) (v ∷ a.columns) e ∙ k e (omega (arith, lt, lz))) in
+      let others : IsZero cs = zero_below cs (λ j lt. number j (let m = h.count in omega (arith, lt, count, m)) zero_sum count) in
       sign_cases c
-      (λ s. zero_by_places v (λ e lt. entry e (omega (arith, lt, long)) others (λ z. omega (arith, ints, s, z))))
+      (λ s. zero_below v (λ e lt. entry e (omega (arith, lt, long)) others (λ z. omega (arith, ints, s, z))))
       (λ s. absurd (some (s, others)))
-      (λ s. zero_by_places v (λ e lt. entry e (omega (arith, lt, long)) others (λ z. omega (arith, ints, s, z))))
+      (λ s. zero_below v (λ e lt. entry e (omega (arith, lt, long)) others (λ z. omega (arith, ints, s, z))))
     where
       number : (j : ℕ) → j < n → IsZero (comb (c ∷ cs) (v ∷ a.columns)) → length cs ≡ length a.columns → at cs j ≡ pos 0
       number j lt zero_sum count =
-          let r = line rows j in
+          let r = row_at rows j in
           let d = sym (dot-comb r (c ∷ cs) (v ∷ a.columns)) ∙ dot-zero r (comb (c ∷ cs) (v ∷ a.columns)) zero_sum in
           let own = kills_at rows v j (omega (arith, lt, many)) kills in
           let w = weigh_unit cs a.columns (dot r) a.den j count (λ i b. h.inverts j i lt (let m = h.count in omega (arith, b, m))) in
@@ -92,16 +66,16 @@ rows_free n rows a many h v long kills = zero_vector n rows a many h v long kill
 
 pub cell_free : (p : Problem) (cell : Cell) (a : Inverse) → IsProblem p → IsOf p cell → IsInverseOfCell p cell a → IsIndependent p cell
 cell_free p cell a well of h v long pairs =
-    rows_free p.dimension (differences p.supports cell) a (rows_shape p cell well of).0 h v long (kills_pairs p.supports cell v pairs)
+    rows_free p.dimension (edges p.supports cell) a (rows_shape p cell well of).0 h v long (kills_pairs p.supports cell v pairs)
   where
-    kills_pairs : (supports : List (List Point)) (cell : Cell) (v : List ℤ) → EachPair supports cell (λ s a b. dot (sub (point_at s b).coordinates (point_at s a).coordinates) v ≡ pos 0) → Kills (differences supports cell) v
+    kills_pairs : (supports : List (List Point)) (cell : Cell) (v : List ℤ) → EachPair supports cell (λ s a b. dot (sub (point_at s b).coordinates (point_at s a).coordinates) v ≡ pos 0) → Kills (edges supports cell) v
     kills_pairs [] [] v e = tt
     kills_pairs [] (x ∷ cell) v e = tt
     kills_pairs (s ∷ supports) [] v e = tt
     kills_pairs (s ∷ supports) (x ∷ cell) v e = (e.0, kills_pairs supports cell v e.1)
 
 -- of each problem with the same points
-same_differences : (supports : List (List Point)) (cell : Cell) → differences (map unranked supports) cell ≡ differences supports cell
+same_differences : (supports : List (List Point)) (cell : Cell) → edges (map unranked supports) cell ≡ edges supports cell
 same_differences [] cell = refl
 same_differences (s ∷ supports) [] = refl
 same_differences (s ∷ supports) (x ∷ cell) =
@@ -120,11 +94,11 @@ same_speed_falls (s ∷ supports) (x ∷ cell) =
     ap₂ (λ (r : ℤ) (rs : List ℤ). r ∷ rs) (ap₂ (λ (a b : Point). a.speed -ℤ b.speed) (point_unranked s x.0) (point_unranked s x.1)) (same_speed_falls supports cell)
 
 module _ (p q : Problem) (cell : Cell) (same : HasSamePoints p q) where
-  pub differences_same : differences q.supports cell ≡ differences p.supports cell
-  differences_same = sym (same_differences q.supports cell) ∙ ap (λ ss. differences ss cell) (sym (same_points p q same)) ∙ same_differences p.supports cell
+  pub differences_same : edges q.supports cell ≡ edges p.supports cell
+  differences_same = sym (same_differences q.supports cell) ∙ ap (λ ss. edges ss cell) (sym (same_points p q same)) ∙ same_differences p.supports cell
 
   pub inverse_same : (a : Inverse) → IsInverseOfCell q cell a → IsInverseOfCell p cell a
-  inverse_same a h = subst (λ n. IsScaledInverse n (differences p.supports cell) a) (sym (same_dimension p q same)) (subst (λ rows. IsScaledInverse q.dimension rows a) differences_same h)
+  inverse_same a h = subst (λ n. IsScaledInverse n (edges p.supports cell) a) (sym (same_dimension p q same)) (subst (λ rows. IsScaledInverse q.dimension rows a) differences_same h)
 
   pub normal_however : IsProblem q → IsOf q cell → (a : Inverse) (m : MovingNormal) → IsInverseOfCell q cell a → m.den ≡ a.den
       → IsSum q.dimension (base_falls q.supports cell) a.columns m.p → IsSum q.dimension (speed_falls q.supports cell) a.columns m.q → IsMovingNormal p cell m

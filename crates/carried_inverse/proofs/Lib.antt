@@ -1,15 +1,15 @@
-pub mod EntrySteps
-pub mod ColumnSteps
-pub mod Turning
-pub mod Exchanging
+mod EntrySteps
+mod ColumnSteps
+mod Turning
+mod Exchanging
 pub mod Rooms
 pub mod FromRows
-pub mod LowestRows
-pub mod Across
+mod LowestRows
+mod Across
 pub mod Normals
 pub mod PairFalls
 pub mod Independence
-pub mod OneInverse
-pub mod Between
+mod OneInverse
+mod Between
 pub mod PairSigns
-pub mod CellFlips
+mod CellFlips

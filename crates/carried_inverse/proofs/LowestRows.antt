@@ -1,5 +1,5 @@
 -- the scaled columns of the reduced rows over the lcm of the pivots are in lowest terms
-use Rattle.std.proofs.Common.{◌≡◌, ℕ, zero, suc, ◌+◌, ◌*◌, ◌<◌, ◌≤◌, unsigned_abs, int_div, ℤ, pos, negsuc, ◌*ℤ◌, ◌<ℤ◌, List, [], ◌∷◌, length, arith, refl, sym, ap, subst, ◌∙◌, inl, inr}
+use Rattle.std.proofs.Common.{◌≡◌, ℕ, zero, suc, ◌+◌, ◌*◌, ◌<◌, unsigned_abs, int_div, ℤ, pos, negsuc, ◌*ℤ◌, ◌<ℤ◌, List, [], ◌∷◌, length, arith, refl, sym, ap, subst, ◌∙◌, inl, inr}
 use Prim.Native.Nat.{◌∣◌}
 use Rattle.std.proofs.Math.IntN.{*ℤ-zero}
 use Rattle.std.proofs.lemmas.Bool.{cases_lt}
@@ -9,7 +9,8 @@ use Rattle.wide_int.proofs.Dividing.{quot_exact}
 use Rattle.wide_int.proofs.Order.{mul_cancel}
 use Rattle.wide_int.proofs.Ring.{as_D, Ds, same_D}
 use Rattle.int_vectors.specs.Contents.{DividesEach}
-use Rattle.int_vectors.specs.Vectors.{Each, at}
+use Rattle.int_vectors.specs.Vectors.{Each, at, row_at}
+use Rattle.int_vectors.proofs.Entries.{past_zero}
 use Rattle.reduced_rows.specs.Carried.{HaveUnits}
 use Rattle.reduced_rows.specs.Denominators.{lcm_from}
 use Rattle.reduced_rows.specs.Least.{IsTimes, MakeWhole}
@@ -17,17 +18,12 @@ use Rattle.reduced_rows.specs.Solutions.{scaled_column}
 use Rattle.reduced_rows.specs.Spans.{IsReducedOf}
 use Rattle.reduced_rows.proofs.LeastMultiple.{least_den}
 use Rattle.reduced_rows.proofs.Orthogonal.{PivotsDivide, pivots_divide}
+use Rattle.reduced_rows.proofs.Picking.{each_at}
 use Rattle.inner_normal.specs.Inverses.{inverse_of, scaled_columns}
-use Rattle.carried_inverse.specs.Systems.{line, IsLowest}
-use Rattle.carried_inverse.proofs.ColumnSteps.{each_at}
-use Rattle.carried_inverse.proofs.Exchanging.{one_left, positive_left}
+use Rattle.inner_normal.proofs.CommonFactors.{one_left, positive_other}
+use Rattle.carried_inverse.specs.Systems.{IsLowest}
 
-at-past : (xs : List ℤ) (k : ℕ) → length xs ≤ k → at xs k ≡ pos 0
-at-past [] k h = refl
-at-past (x ∷ xs) zero h = absurd (omega (arith, h))
-at-past (x ∷ xs) (suc k) h = at-past xs k (omega (arith, h))
-
-column_is : (m off l : ℕ) (made : List (List ℤ)) (i : ℕ) → i < m → line (scaled_columns m off l made) i ≡ scaled_column (off + i) 0 l made
+column_is : (m off l : ℕ) (made : List (List ℤ)) (i : ℕ) → i < m → row_at (scaled_columns m off l made) i ≡ scaled_column (off + i) 0 l made
 column_is zero off l made i lt = absurd (omega (arith, lt))
 column_is (suc m) off l made zero lt = let e : off ≡ off + 0 = omega arith in ap (λ k. scaled_column k 0 l made) e
 column_is (suc m) off l made (suc i) lt = let e : suc off + i ≡ off + suc i = omega arith in column_is m (suc off) l made i (omega (arith, lt)) ∙ ap (λ k. scaled_column k 0 l made) e
@@ -66,7 +62,7 @@ module _ (n off d l m : ℕ) (some : 0 < d) (divides : d ∣ l) (is : pos m ≡ 
       one : (i : ℕ) → IsTimes (at row j) (pos m *ℤ at row (off + i))
       one i = elim (cases_lt i n) [
         | inl lt ↦ subst (λ z. IsTimes (at row j) (z *ℤ at row (off + i))) (sym is) (entry d l (at row (off + i)) (at row j) some divides v.0 (f i lt).0)
-        | inr ge ↦ (pos 0, *ℤ-zero (at row j) ∙ sym (ap (λ z. pos m *ℤ z) (at-past row (off + i) (let e = w.0 in omega (arith, e, ge))) ∙ *ℤ-zero (pos m)))
+        | inr ge ↦ (pos 0, *ℤ-zero (at row j) ∙ sym (ap (λ z. pos m *ℤ z) (past_zero row (off + i) (let e = w.0 in omega (arith, e, ge))) ∙ *ℤ-zero (pos m)))
       ]
 
 pub inverse_lowest : (n : ℕ) (given made : List (List ℤ)) → IsReducedOf n given made → HaveUnits (n + 2) 0 given → Each made (λ row. length row ≡ n + 2 + n) → pos 0 <ℤ (inverse_of made).den → IsLowest (inverse_of made).den (inverse_of made).columns
@@ -74,12 +70,12 @@ inverse_lowest n given made r u w positive d a b =
     let l = lcm_from 0 1 made in
     let some : 0 < d = above d l a positive in
     let e : pos d *ℤ int_div (pos l) (pos d) ≡ pos l = quot_exact (pos l) (pos d) a in
-    let mp = positive_left (pos l) (int_div (pos l) (pos d)) (pos d) positive (omega (arith, ints, some)) e in
+    let mp = positive_other (pos l) (int_div (pos l) (pos d)) (pos d) positive (omega (arith, ints, some)) e in
     let m = unsigned_abs (int_div (pos l) (pos d)) in
     let is : pos m ≡ int_div (pos l) (pos d) = back (int_div (pos l) (pos d)) mp in
     let off = ap (λ k. scaled_columns k (k + 2) l made) r.count in
     let whole = make_whole n (n + 2) d l m some a is 0 made (pivots_divide 0 1 made) w
-    (λ i lt. subst (DividesEach d) (ap (λ xs. line xs i) off ∙ column_is n (n + 2) l made i lt) (each_at (DividesEach d) (scaled_columns (length made) (length made + 2) l made) i [] (let c = r.count in let k = columns_many (length made) (length made + 2) l made in omega (arith, lt, c, k)) b)) in
+    (λ i lt. subst (DividesEach d) (ap (λ xs. row_at xs i) off ∙ column_is n (n + 2) l made i lt) (each_at (DividesEach d) (scaled_columns (length made) (length made + 2) l made) i [] (let c = r.count in let k = columns_many (length made) (length made + 2) l made in omega (arith, lt, c, k)) b)) in
     let least = least_den n (n + 2) m given made r u (let p = mp in omega (arith, ints, p, is)) whole in
     one_left m d (let p = mp in omega (arith, ints, p, is))
     (subst (λ z. z ∣ m) (ap unsigned_abs (sym e) ∙ unsigned_abs-mul (pos d) (int_div (pos l) (pos d)) ∙ swap d m) least)

@@ -5,21 +5,24 @@ use Rattle.std.proofs.Math.IntN.{*ℤ_comm}
 use Rattle.std.proofs.Math.Nat.{dvd-mul_right}
 use Rattle.std.proofs.lemmas.Int.{ints, unsigned_abs-mul}
 use Rattle.std.proofs.lemmas.Nat.Gcd.{dvd_antisymm}
-use Rattle.wide_int.proofs.CommonDivisors.{lcm_positive}
 use Rattle.wide_int.proofs.Ring.{as_D, Ds, same_D}
+use Rattle.wide_int.proofs.Signed.{positive_is}
 use Rattle.int_vectors.specs.Contents.{content, DividesEach}
-use Rattle.int_vectors.specs.Vectors.{Each, IsZero, add, at, dot, scale, sub}
-use Rattle.int_vectors.proofs.EntryDivisors.{content_is, scale_cancel}
+use Rattle.int_vectors.specs.Vectors.{Each, add, dot, scale, sub, row_at}
+use Rattle.int_vectors.proofs.EntryDivisors.{content_is, scale_cancel, divides_both, divides_apart}
+use Rattle.int_vectors.proofs.Entries.{length-scale}
 use Rattle.reduced_rows.proofs.LeastMultiple.{divides_content}
 use Rattle.reduced_rows.specs.CellRefusals.{IsEliminated}
 use Rattle.reduced_rows.specs.Denominators.{lcm_from, shares}
-use Rattle.reduced_rows.specs.Spans.{IsReduced}
+use Rattle.reduced_rows.proofs.Picking.{each_at}
+use Rattle.reduced_rows.proofs.Orthogonal.{lcm_some}
 use Rattle.cayley.specs.Cells.{Cell, EachPair, IsOf}
 use Rattle.cayley.specs.Problems.{Point, Problem, IsProblem, point_at}
-use Rattle.cayley.specs.Rows.{edge_rows}
+use Rattle.cayley.specs.Rows.{edge_rows, edges}
 use Rattle.cayley.proofs.OneCell.CellNormals.{same_long}
 use Rattle.cayley.proofs.Algebra.Kernel.{Kills}
-use Rattle.cayley.proofs.Algebra.ScaledInverse.{dot-add, dot-scale, length-scale}
+use Rattle.cayley.proofs.Algebra.ScaledInverse.{dot-add, dot-scale}
+use Rattle.cayley.proofs.OneCell.OneNormal.{same_lists}
 use Rattle.inner_normal.specs.Inverses.{Inverse, inverse_of}
 use Rattle.inner_normal.proofs.Meaning.{reduced_of}
 use Rattle.inner_normal.specs.declared.moving.MovingNormal.{MovingNormal}
@@ -28,30 +31,17 @@ use Rattle.inner_normal.specs.Workings.{IsNormalFrom}
 use Rattle.inner_normal.proofs.FileNormals.{levels_of}
 use Rattle.inner_normal.proofs.PairEquations.{Levels}
 use Rattle.inner_normal.proofs.RowEquations.{moving_from}
-use Rattle.carried_inverse.specs.Systems.{line, IsScaledInverse, differences, IsInverseOfCell}
-use Rattle.carried_inverse.proofs.ColumnSteps.{each_at}
+use Rattle.carried_inverse.specs.Systems.{IsScaledInverse, IsInverseOfCell}
 use Rattle.carried_inverse.proofs.FromRows.{inverse_of_cell}
 use Rattle.carried_inverse.proofs.Independence.{rows_free}
 use Rattle.carried_inverse.proofs.Normals.{rows_shape}
 
 -- a difference that is zero, of lists of one length
-equal_multiples : (a b : ℤ) (xs ys : List ℤ) → length xs ≡ length ys → IsZero (add (scale a xs) (scale (neg_ℤ b) ys)) → scale a xs ≡ scale b ys
-equal_multiples a b [] [] l z = refl
-equal_multiples a b [] (y ∷ ys) l z = absurd (omega (arith, l))
-equal_multiples a b (x ∷ xs) [] l z = absurd (omega (arith, l))
-equal_multiples a b (x ∷ xs) (y ∷ ys) l z = ap₂ (λ u us. u ∷ us) (same a x b y z.0) (equal_multiples a b xs ys (omega (arith, l)) z.1)
-  where
-    same : (a x b y : ℤ) → a *ℤ x +ℤ neg_ℤ b *ℤ y ≡ pos 0 → a *ℤ x ≡ b *ℤ y
-    same a x b y e = let n = minus b y in omega (arith, ints, e, n)
-      where
-        minus : (b y : ℤ) → neg_ℤ b *ℤ y ≡ neg_ℤ (b *ℤ y)
-        minus b y = rw (as_D b, as_D y) (simp Ds (same_D _ _ _ _ (omega arith)))
-
-kills_from : (rows : List (List ℤ)) (v : List ℤ) → ((j : ℕ) → j < length rows → dot (line rows j) v ≡ pos 0) → Kills rows v
+pub kills_from : (rows : List (List ℤ)) (v : List ℤ) → ((j : ℕ) → j < length rows → dot (row_at rows j) v ≡ pos 0) → Kills rows v
 kills_from [] v f = tt
 kills_from (r ∷ rows) v f = (f 0 (omega arith), kills_from rows v (λ j l. f (suc j) (omega (arith, l))))
 
-same_lines : (xs ys : List (List ℤ)) → length xs ≡ length ys → ((k : ℕ) → k < length xs → line xs k ≡ line ys k) → xs ≡ ys
+same_lines : (xs ys : List (List ℤ)) → length xs ≡ length ys → ((k : ℕ) → k < length xs → row_at xs k ≡ row_at ys k) → xs ≡ ys
 same_lines [] [] l f = refl
 same_lines [] (y ∷ ys) l f = absurd (omega (arith, l))
 same_lines (x ∷ xs) [] l f = absurd (omega (arith, l))
@@ -62,47 +52,35 @@ flat : List (List ℤ) → List ℤ
 flat [] = []
 flat (x ∷ xs) = x ++ flat xs
 
-divides-both : (d : ℕ) (xs ys : List ℤ) → DividesEach d xs → DividesEach d ys → DividesEach d (xs ++ ys)
-divides-both d [] ys h k = k
-divides-both d (x ∷ xs) ys h k = (h.0, divides-both d xs ys h.1 k)
-
-divides_left : (d : ℕ) (xs ys : List ℤ) → DividesEach d (xs ++ ys) → DividesEach d xs × DividesEach d ys
-divides_left d [] ys h = (tt, h)
-divides_left d (x ∷ xs) ys h = let r = divides_left d xs ys h.1 in ((h.0, r.0), r.1)
-
 flat_each : (d : ℕ) (xs : List (List ℤ)) → DividesEach d (flat xs) → Each xs (DividesEach d)
 unfolding flat
 flat_each d [] h = tt
-flat_each d (x ∷ xs) h = let r = divides_left d x (flat xs) h in (r.0, flat_each d xs r.1)
+flat_each d (x ∷ xs) h = let r = divides_apart d x (flat xs) h in (r.0, flat_each d xs r.1)
 
 scale-both : (k : ℤ) (xs ys : List ℤ) → scale k (xs ++ ys) ≡ scale k xs ++ scale k ys
 scale-both k [] ys = refl
 scale-both k (x ∷ xs) ys = ap (λ l. (k *ℤ x) ∷ l) (scale-both k xs ys)
 
-scaled_divides : (d : ℕ) (k : ℤ) (xs : List (List ℤ)) → ((i : ℕ) → i < length xs → DividesEach d (scale k (line xs i))) → DividesEach d (scale k (flat xs))
+scaled_divides : (d : ℕ) (k : ℤ) (xs : List (List ℤ)) → ((i : ℕ) → i < length xs → DividesEach d (scale k (row_at xs i))) → DividesEach d (scale k (flat xs))
 unfolding flat
 scaled_divides d k [] f = tt
-scaled_divides d k (x ∷ xs) f = subst (DividesEach d) (sym (scale-both k x (flat xs))) (divides-both d (scale k x) (scale k (flat xs)) (f 0 (omega arith)) (scaled_divides d k xs (λ i l. f (suc i) (omega (arith, l)))))
+scaled_divides d k (x ∷ xs) f = subst (DividesEach d) (sym (scale-both k x (flat xs))) (divides_both d (scale k x) (scale k (flat xs)) (f 0 (omega arith)) (scaled_divides d k xs (λ i l. f (suc i) (omega (arith, l)))))
 
 multiple_divides : (d : ℤ) (ys : List ℤ) → DividesEach (unsigned_abs d) (scale d ys)
 multiple_divides d [] = tt
 multiple_divides d (y ∷ ys) = (subst (λ n. unsigned_abs d ∣ n) (sym (unsigned_abs-mul d y)) (dvd-mul_right (unsigned_abs d) (unsigned_abs y)), multiple_divides d ys)
 
-above_pos : (z : ℤ) → pos 0 <ℤ z → pos (unsigned_abs z) ≡ z
-above_pos (pos n) h = refl
-above_pos (negsuc n) h = absurd (omega (arith, ints, h))
-
 module _ (n : ℕ) (rows : List (List ℤ)) (many : length rows ≡ n) where
-  columns_agree : (a b : Inverse) → IsScaledInverse n rows a → IsScaledInverse n rows b → (k : ℕ) → k < n → scale b.den (line a.columns k) ≡ scale a.den (line b.columns k)
+  columns_agree : (a b : Inverse) → IsScaledInverse n rows a → IsScaledInverse n rows b → (k : ℕ) → k < n → scale b.den (row_at a.columns k) ≡ scale a.den (row_at b.columns k)
   columns_agree a b ha hb k lt =
-      let x = line a.columns k in
-      let y = line b.columns k in
+      let x = row_at a.columns k in
+      let y = row_at b.columns k in
       let lx = each_at (λ c. length c ≡ n) a.columns k [] (let m = ha.count in omega (arith, lt, m)) ha.long in
       let ly = each_at (λ c. length c ≡ n) b.columns k [] (let m = hb.count in omega (arith, lt, m)) hb.long in
-      equal_multiples b.den a.den x y (lx ∙ sym ly)
+      same_lists b.den a.den x y (lx ∙ sym ly)
       (rows_free n rows a many ha (add (scale b.den x) (scale (neg_ℤ a.den) y)) (same_long (scale b.den x) (scale (neg_ℤ a.den) y) n (length-scale b.den x ∙ lx) (length-scale (neg_ℤ a.den) y ∙ ly))
       (kills_from rows (add (scale b.den x) (scale (neg_ℤ a.den) y)) (λ j lj.
-      let r = line rows j in
+      let r = row_at rows j in
       dot-add r (scale b.den x) (scale (neg_ℤ a.den) y) ∙ ap₂ ◌+ℤ◌ (dot-scale r b.den x) (dot-scale r (neg_ℤ a.den) y)
       ∙ ap₂ (λ u w. b.den *ℤ u +ℤ neg_ℤ a.den *ℤ w) (ha.inverts j k (omega (arith, lj, many)) lt) (hb.inverts j k (omega (arith, lj, many)) lt)
       ∙ nothing b.den a.den _)))
@@ -121,8 +99,8 @@ module _ (n : ℕ) (rows : List (List ℤ)) (many : length rows ≡ n) where
       let is = content_is all in
       let one : content all ≡ 1 = ha.lowest (content all) is.0.0 (flat_each (content all) a.columns is.0.1) in
       let first : d ∣ unsigned_abs (b.den *ℤ a.den) = subst (λ z. d ∣ unsigned_abs z) (*ℤ_comm a.den b.den) (subst (λ m. d ∣ m) (sym (unsigned_abs-mul a.den b.den)) (dvd-mul_right d c)) in
-      let rest = scaled_divides d b.den a.columns (λ i l. let li : i < n = (let m = ha.count in omega (arith, l, m)) in subst (DividesEach d) (sym (columns_agree a b ha hb i li)) (multiple_divides a.den (line b.columns i))) in
-      let e = above_pos b.den hb.positive in
+      let rest = scaled_divides d b.den a.columns (λ i l. let li : i < n = (let m = ha.count in omega (arith, l, m)) in subst (DividesEach d) (sym (columns_agree a b ha hb i li)) (multiple_divides a.den (row_at b.columns i))) in
+      let e = positive_is b.den hb.positive in
       let i : c * 1 ≡ c = omega arith in
       subst (λ m. d ∣ m) (ap (λ m. c * m) one ∙ i)
       (divides_content d c all (above b.den hb.positive) (subst (λ (z : ℤ). DividesEach d (scale z all)) (sym e) (first, rest)))
@@ -133,31 +111,22 @@ module _ (n : ℕ) (rows : List (List ℤ)) (many : length rows ≡ n) where
 
   pub one_inverse : (a b : Inverse) → IsScaledInverse n rows a → IsScaledInverse n rows b → a ≡ b
   one_inverse a b ha hb =
-      let d = sym (above_pos a.den ha.positive) ∙ ap pos (dvd_antisymm (den_divides a b ha hb) (den_divides b a hb ha)) ∙ above_pos b.den hb.positive in
+      let d = sym (positive_is a.den ha.positive) ∙ ap pos (dvd_antisymm (den_divides a b ha hb) (den_divides b a hb ha)) ∙ positive_is b.den hb.positive in
       ap₂ mk d (same_lines a.columns b.columns (ha.count ∙ sym hb.count) (λ k lt.
-      scale_cancel b.den (line a.columns k) (line b.columns k) (λ z. let p = hb.positive in omega (arith, ints, z, p))
-      (columns_agree a b ha hb k (let m = ha.count in omega (arith, lt, m)) ∙ ap (λ z. scale z (line b.columns k)) d)))
+      scale_cancel b.den (row_at a.columns k) (row_at b.columns k) (λ z. let p = hb.positive in omega (arith, ints, z, p))
+      (columns_agree a b ha hb k (let m = ha.count in omega (arith, lt, m)) ∙ ap (λ z. scale z (row_at b.columns k)) d)))
     where
       mk : ℤ → List (List ℤ) → Inverse
       mk den columns = record { den = den; columns = columns }
 
 -- the lcm of the pivots is positive
-lcm_above : (k j l : ℕ) (rows : List (List ℤ)) → 0 < l → IsReduced k j rows → 0 < lcm_from j l rows
-unfolding lcm_from
-lcm_above k j l [] h r = h
-lcm_above k j l (row ∷ rows) h r = lcm_above k (suc j) _ rows (lcm_positive l (unsigned_abs (at row j)) h (above (at row j) r.0)) r.2
-  where
-    above : (z : ℤ) → pos 0 <ℤ z → 0 < unsigned_abs z
-    above (pos m) h = omega (arith, ints, h)
-    above (negsuc m) h = absurd (omega (arith, ints, h))
-
 module _ (p : Problem) (cell : Cell) (well : IsProblem p) (of : IsOf p cell) (made : List (List ℤ)) (done : IsEliminated p.dimension (edge_rows p cell) made) where
   pub den_above : pos 0 <ℤ (inverse_of made).den
-  den_above = let h = lcm_above p.dimension 0 1 made (omega arith) (reduced_of p cell well of made done).reduced in omega (arith, ints, h)
+  den_above = let h = lcm_some p.dimension 0 1 made (omega arith) (reduced_of p cell well of made done).reduced in omega (arith, ints, h)
 
   -- the inverse in lowest terms is that of the reduced rows
   pub is_inverse_of : (a : Inverse) → IsInverseOfCell p cell a → a ≡ inverse_of made
-  is_inverse_of a h = one_inverse p.dimension (differences p.supports cell) (rows_shape p cell well of).0 a (inverse_of made) h (inverse_of_cell p cell well of made done den_above)
+  is_inverse_of a h = one_inverse p.dimension (edges p.supports cell) (rows_shape p cell well of).0 a (inverse_of made) h (inverse_of_cell p cell well of made done den_above)
 
 -- two normals over one denominator
 module _ (p : Problem) (cell : Cell) (m o : MovingNormal) (hm : IsMovingNormal p cell m) (ho : IsMovingNormal p cell o) (den : m.den ≡ o.den) where
@@ -182,7 +151,7 @@ module _ (p : Problem) (cell : Cell) (m o : MovingNormal) (hm : IsMovingNormal p
       → EachPair p.supports cell (λ s a b. dot (sub (point_at s b).coordinates (point_at s a).coordinates) x +ℤ m.den *ℤ (f (point_at s b) -ℤ f (point_at s a)) ≡ pos 0)
       → EachPair p.supports cell (λ s a b. dot (sub (point_at s b).coordinates (point_at s a).coordinates) y +ℤ m.den *ℤ (f (point_at s b) -ℤ f (point_at s a)) ≡ pos 0) → x ≡ y
   agree f x y lx ly e g =
-      one x ∙ equal_multiples (pos 1) (pos 1) x y (lx ∙ sym ly)
+      one x ∙ same_lists (pos 1) (pos 1) x y (lx ∙ sym ly)
       (hm.independent (add (scale (pos 1) x) (scale (neg_ℤ (pos 1)) y)) (same_long (scale (pos 1) x) (scale (neg_ℤ (pos 1)) y) p.dimension (length-scale (pos 1) x ∙ lx) (length-scale (neg_ℤ (pos 1)) y ∙ ly))
       (pairs_agree f x y p.supports cell e g)) ∙ sym (one y)
     where

@@ -1,6 +1,6 @@
 -- What an exchange answers.
 use Rattle.std.specs.Prelude.{◌≡◌, ℕ, List, length, map, ℤ, pos, slice_set}
-use Rattle.int_vectors.specs.Vectors.{IsZero, IsOrthogonal, dot}
+use Rattle.int_vectors.specs.Vectors.{IsZero, IsOrthogonal, dot, row_at}
 use Rattle.inner_normal.specs.Inverses.{Inverse}
 use Rattle.carried_inverse.specs.declared.carried.Exchange.{Exchange}
 use Rattle.carried_inverse.specs.declared.carried.Exchange.TheVariants.{Made, Dependent, TooLarge}
@@ -12,8 +12,8 @@ use Rattle.cayley.specs.declared.found.Sign.{Sign}
 use Rattle.cayley.specs.Dependencies.{Numbers, number_at, IsPositiveDependency}
 use Rattle.cayley.specs.Flips.{put_pair}
 use Rattle.cayley.specs.Problems.{Problem}
-use Rattle.flip_rule.specs.Signs.{HaveSigns}
-use Rattle.carried_inverse.specs.Systems.{line, IsScaledInverse, IsInverseOfCell}
+use Rattle.cayley.specs.Signs.{HaveSigns}
+use Rattle.carried_inverse.specs.Systems.{IsScaledInverse, IsInverseOfCell}
 
 -- Made: of whatever rows it was the inverse, it is that of the rows with this one at place i. Dependent: those rows are orthogonal to a
 -- vector other than zero. Nothing changes but where it is made.
@@ -21,13 +21,13 @@ abbrev pub IsExchange : ℕ → List ℤ → Inverse → Inverse → Exchange �
 IsExchange i row old new Made = (rows : List (List ℤ)) → length rows ≡ length old.columns → IsScaledInverse (length old.columns) rows old → IsScaledInverse (length old.columns) (slice_set rows i row) new
 IsExchange i row old new Dependent = (new ≡ old)
     × ((rows : List (List ℤ)) → length rows ≡ length old.columns → IsScaledInverse (length old.columns) rows old
-    → IsOrthogonal (slice_set rows i row) (line old.columns i) × ¬ (IsZero (line old.columns i)))
+    → IsOrthogonal (slice_set rows i row) (row_at old.columns i) × ¬ (IsZero (row_at old.columns i)))
 IsExchange i row old new TooLarge = new ≡ old
 
 -- one exchange of columns by the products with the new row
 abbrev pub IsStep : ℕ → ℤ → List ℤ → List (List ℤ) → List (List ℤ) → Step → Type 0
 IsStep i den row old new (step.Made over) = IsExchanged i den (map (dot row) old) old over new
-IsStep i den row old new step.Dependent = (new ≡ old) × (dot row (line old i) ≡ pos 0)
+IsStep i den row old new step.Dependent = (new ≡ old) × (dot row (row_at old i) ≡ pos 0)
 IsStep i den row old new step.TooLarge = new ≡ old
 
 -- Made: of whatever cell it was the inverse, it is that of the cell with this pair in support j. Dependent: that cell is dependent.

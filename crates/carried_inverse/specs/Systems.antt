@@ -1,20 +1,17 @@
 -- The inverse of a square system of rows, over a denominator and in lowest terms.
-use Rattle.std.specs.Prelude.{◌≡◌, ℕ, ◌<◌, List, [], ◌∷◌, length, ℤ, pos, ◌*ℤ◌, ◌<ℤ◌, unsigned_abs, slice_index_or}
+use Rattle.std.specs.Prelude.{◌≡◌, ℕ, ◌<◌, List, length, ℤ, pos, ◌*ℤ◌, ◌<ℤ◌, unsigned_abs}
 use Prim.Native.Nat.{◌∣◌}
 use Rattle.int_vectors.specs.Contents.{DividesEach}
-use Rattle.int_vectors.specs.Vectors.{Each, dot, sub}
+use Rattle.int_vectors.specs.Vectors.{Each, dot, row_at}
 use Rattle.reduced_rows.specs.Carried.{unit}
 use Rattle.cayley.specs.Cells.{Cell}
-use Rattle.cayley.specs.Problems.{Point, Problem, point_at}
+use Rattle.cayley.specs.Problems.{Problem}
+use Rattle.cayley.specs.Rows.{edges}
 use Rattle.inner_normal.specs.Inverses.{Inverse}
-
--- the row or column at a place
-abbrev pub line : List (List ℤ) → ℕ → List ℤ
-line rows i = slice_index_or rows i []
 
 -- the product of a row and a column is den where their places are equal, else 0
 abbrev pub Inverts : ℕ → List (List ℤ) → ℤ → List (List ℤ) → Type 0
-Inverts n rows den columns = (i k : ℕ) → i < n → k < n → dot (line rows i) (line columns k) ≡ den *ℤ unit i k
+Inverts n rows den columns = (i k : ℕ) → i < n → k < n → dot (row_at rows i) (row_at columns k) ≡ den *ℤ unit i k
 
 -- no number above 1 divides the denominator and each entry
 abbrev pub IsLowest : ℤ → List (List ℤ) → Type 0
@@ -28,12 +25,6 @@ pub record IsScaledInverse (n : ℕ) (rows : List (List ℤ)) (a : Inverse) : Ty
   pub inverts : Inverts n rows a.den a.columns
   pub lowest : IsLowest a.den a.columns
 
--- the differences of coordinates of a cell's pairs
-abbrev pub differences : List (List Point) → Cell → List (List ℤ)
-differences [] cell = []
-differences (s ∷ supports) [] = []
-differences (s ∷ supports) (pair ∷ cell) = sub (point_at s pair.1).coordinates (point_at s pair.0).coordinates ∷ differences supports cell
-
 -- the inverse of a cell's differences, in lowest terms
 abbrev pub IsInverseOfCell : Problem → Cell → Inverse → Type 0
-IsInverseOfCell p cell a = IsScaledInverse p.dimension (differences p.supports cell) a
+IsInverseOfCell p cell a = IsScaledInverse p.dimension (edges p.supports cell) a

@@ -1,6 +1,6 @@
 ghost use Rattle.std.specs.Prelude.{IsTrue, IfOk, IfSome, ◌∷◌, [], ◌-◌, ◌≡◌, ◌≢◌, ◌+◌, ◌*◌, ◌<◌, ◌≤◌, ◌^◌, ℕ, ℤ, List, pos, ◌*ℤ◌, ◌-ℤ◌, ◌+ℤ◌, ◌<ℤ◌, unsigned_abs, length, map};
 ghost use Rattle.int_vectors.specs.Bounds.{Within};
-ghost use Rattle.int_vectors.specs.Vectors.{Each, at, dot};
+ghost use Rattle.int_vectors.specs.Vectors.{Each, at, dot, row_at};
 ghost use Rattle.cayley.specs.Cells as cells;
 ghost use Rattle.cayley.specs.Cells.{IsOf};
 ghost use Rattle.cayley.specs.Problems as problems;
@@ -9,10 +9,10 @@ ghost use Rattle.inner_normal.specs.MovingNormals.{IsMovingNormal};
 ghost use Rattle.inner_normal.specs.Workings.{IsNormalFrom};
 ghost use Rattle.carried_inverse.specs.Sums.{HasSumRoom, IsSum};
 ghost use Rattle.cayley.specs.Rows.{edge_rows};
-ghost use Rattle.cayley.specs.Dependencies.{IsFurtherAt, support_at};
+ghost use Rattle.cayley.specs.Dependencies.{IsFurtherAt, nth_support};
 ghost use Rattle.inner_normal.specs.Inverses.{inverse_of};
 ghost use Rattle.reduced_rows.specs.CellRefusals.{IsEliminated};
-ghost use Rattle.carried_inverse.specs.Systems.{line, IsInverseOfCell};
+ghost use Rattle.carried_inverse.specs.Systems.{IsInverseOfCell};
 ghost use Rattle.carried_inverse.specs.Exchanges.{IsExchanged, HasExchangeRoom};
 ghost use Rattle.carried_inverse.specs.Answers.{IsExchange, IsStep, IsFlip, HasPairSigns};
 
@@ -222,7 +222,7 @@ impl Carried {
     /// The column at a place, which counts from 0: its numbers are over the denominator.
     pub fn column(&self, place: usize) -> &[i64]
         requires { place < length self.now.columns }
-        ensures { result.now ≡ line self.now.columns place }
+        ensures { result.now ≡ row_at self.now.columns place }
     {
         self.columns[place].as_slice()
     }
@@ -262,7 +262,7 @@ impl Carried {
         row: &mut [i64],
     ) -> Exchange
         requires support { (1 ≤ support) × (support ≤ problem.now.dimension) }
-        requires pair { (1 ≤ pair.0) × (pair.0 < pair.1) × (pair.1 ≤ length (support_at problem.now.supports (support - 1))) }
+        requires pair { (1 ≤ pair.0) × (pair.0 < pair.1) × (pair.1 ≤ length (nth_support problem.now.supports (support - 1))) }
         requires count { length self.old.columns ≡ problem.now.dimension }
         requires row { length row.old ≡ problem.now.dimension }
         ensures flip { IsFlip problem.now (support - 1) pair self.old self.new result }

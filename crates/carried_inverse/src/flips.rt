@@ -2,10 +2,10 @@ ghost use Rattle.std.specs.Prelude.{◌≡◌, ◌∷◌, [], ◌-◌, ◌+◌, 
 ghost use Rattle.int_vectors.specs.Bounds.{Within, Room, size};
 ghost use Rattle.int_vectors.specs.Vectors.{Each, sub, dot};
 ghost use Rattle.cayley.specs.Cells.{IsOf};
-ghost use Rattle.cayley.specs.Dependencies.{support_at, pair_at};
+ghost use Rattle.cayley.specs.Dependencies.{nth_support, pair_at};
 ghost use Rattle.cayley.specs.Problems.{point_at};
 ghost use Rattle.cayley.specs.Valid.{IsValidProblem, IsCornerCoordinate};
-ghost use Rattle.flip_rule.specs.Signs.{HasSign};
+ghost use Rattle.cayley.specs.Signs.{HasSign};
 
 use crate::entries::{greatest, plus_product};
 use cayley::{Cell, Point, Problem, Sign};
@@ -13,8 +13,8 @@ use cayley::{Cell, Point, Problem, Sign};
 // The point at a position of a support; both count from 1.
 pub(crate) fn point_of(problem: &Problem, support: u32, position: u32) -> &Point
     requires support { (1 ≤ support) × (support ≤ problem.now.dimension) }
-    requires position { (1 ≤ position) × (position ≤ length (support_at problem.now.supports (support - 1))) }
-    ensures same { result.now.coords ≡ (point_at (support_at problem.now.supports (support - 1)) position).coordinates }
+    requires position { (1 ≤ position) × (position ≤ length (nth_support problem.now.supports (support - 1))) }
+    ensures same { result.now.coords ≡ (point_at (nth_support problem.now.supports (support - 1)) position).coordinates }
     ensures long { length result.now.coords ≡ problem.now.dimension }
     ensures near { Each result.now.coords IsCornerCoordinate }
     ensures valid { IsValidProblem problem.now }
@@ -27,7 +27,7 @@ pub(crate) fn first_of(problem: &Problem, cell: &Cell, support: u32) -> u32
     requires cell { IsOf problem.now cell.now }
     requires support { (1 ≤ support) × (support ≤ problem.now.dimension) }
     ensures same { result ≡ (pair_at cell.now (support - 1)).0 }
-    ensures place { (1 ≤ result) × (result ≤ length (support_at problem.now.supports (support - 1))) }
+    ensures place { (1 ≤ result) × (result ≤ length (nth_support problem.now.supports (support - 1))) }
 {
     // A problem is valid by its type, as its readers tell.
     let _dim = problem.dim();

@@ -1,15 +1,15 @@
 -- what stands before and after a wall
 pub mod Spots
 pub mod Neighbours
-pub mod PairOrder
+mod PairOrder
 pub mod Exchange
 pub mod Places
 pub mod FlipScenes
-pub mod FlipSides
+mod FlipSides
 pub mod FlipNeighbours
-pub mod FlipSpots
+mod FlipSpots
 pub mod FlipPlaces
-pub mod FlipParents
+mod FlipParents
 pub mod FlipChildren
-pub mod FlipOrder
+mod FlipOrder
 pub mod FlipSigns

@@ -4,13 +4,13 @@ pub mod Begins
 pub mod Ends
 pub mod Exits
 pub mod Levels
-pub mod Ties
+mod Ties
 pub mod Crossings
 pub mod Walls
 pub mod LifeLaws
 pub mod Targets
 pub mod ShownTies
-pub mod StillGaps
+mod StillGaps
 pub mod Still
 pub mod Spots
 pub mod NamedTies

@@ -2,7 +2,7 @@
 pub mod FileShapes
 pub mod Repeats
 pub mod FileFaults
-pub mod Stable
+mod Stable
 pub mod SupportFaults
 pub mod ProblemShapes
 pub mod ProblemFaults

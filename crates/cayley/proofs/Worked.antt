@@ -1,10 +1,10 @@
 -- worked problems, from the definitions alone
-pub mod Paths
+mod Paths
 mod Squares
-mod OnePoint
+pub mod OnePoint
 mod LevelPoints
 pub mod ThreePoints
 mod Perturbed
 pub mod Walls
-pub mod NamedPlaces
+mod NamedPlaces
 pub mod TwoPoints

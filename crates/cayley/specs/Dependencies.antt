@@ -7,10 +7,10 @@ use Rattle.cayley.specs.Cells.{Cell, IsFurther}
 use Rattle.cayley.specs.Normals.{height}
 
 -- the support at a place, counted from 0
-abbrev pub support_at : List (List Point) → ℕ → List Point
-support_at [] j = []
-support_at (s ∷ supports) zero = s
-support_at (s ∷ supports) (suc j) = support_at supports j
+abbrev pub nth_support : List (List Point) → ℕ → List Point
+nth_support [] j = []
+nth_support (s ∷ supports) zero = s
+nth_support (s ∷ supports) (suc j) = nth_support supports j
 
 -- the pair at a place
 abbrev pub pair_at : Cell → ℕ → ℕ × ℕ
@@ -20,7 +20,7 @@ pair_at (x ∷ cell) (suc j) = pair_at cell j
 
 -- c is a further point of support j
 abbrev pub IsFurtherAt : Problem → Cell → ℕ → ℕ → Type 0
-IsFurtherAt p cell j c = IsFurther (support_at p.supports j) (pair_at cell j).0 (pair_at cell j).1 c
+IsFurtherAt p cell j c = IsFurther (nth_support p.supports j) (pair_at cell j).0 (pair_at cell j).1 c
 
 -- two numbers for each pair, and one for the further point
 pub record Numbers : Type 0 where
@@ -58,7 +58,7 @@ IsDependencyWith p cell j c numbers = ¬ (IsNothing numbers.pairs × (numbers.la
 
 -- a dependency of a cell and the further point c of support j: two numbers for each pair of the cell, and one for c
 abbrev pub IsDependencyOf : Problem → Cell → ℕ → ℕ → Numbers → Type 0
-IsDependencyOf p cell j c numbers = (length numbers.pairs ≡ length cell) × IsDependencyWith p cell j (point_at (support_at p.supports j) c) numbers
+IsDependencyOf p cell j c numbers = (length numbers.pairs ≡ length cell) × IsDependencyWith p cell j (point_at (nth_support p.supports j) c) numbers
 
 abbrev pub IsPositiveDependency : Problem → Cell → ℕ → ℕ → Numbers → Type 0
 IsPositiveDependency p cell j c numbers = (pos 0 <ℤ numbers.last) × IsDependencyOf p cell j c numbers

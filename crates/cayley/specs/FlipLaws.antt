@@ -8,7 +8,9 @@ use Rattle.cayley.specs.Lives.{AliveJustBefore}
 use Rattle.cayley.specs.Parents.{IsParent}
 use Rattle.cayley.specs.Dependencies.{IsFurtherAt, Numbers, number_at, IsPositiveDependency}
 use Rattle.cayley.specs.Flips.{IsOnlyLevel, IsSuccessorAt, IsPredecessorAt, IsLeastPredecessor, Flips}
-use Rattle.cayley.specs.FlipRules.{Sign, HasSign, successors_by, predecessors_by, KeepsBy}
+use Rattle.cayley.specs.declared.found.Sign.{Sign}
+use Rattle.cayley.specs.Signs.{HasSign}
+use Rattle.cayley.specs.FlipRules.{successors_by, predecessors_by, KeepsBy}
 
 -- a cell that is alive just before t, where exactly one further point is level at t;
 -- that none is below then, and that this point isn't level at all times, follows
@@ -29,7 +31,7 @@ FlipRule = (p : Problem) (cell : Cell) (j c : ℕ) (m : ℤ × ℤ) (a b : Sign)
     → IsListOf (IsSuccessorAt cell j c m) (successors_by cell j c a b)
     × (IsLeastPredecessor cell j c m ↔ KeepsBy cell j c a b)
 
--- the predecessors in cell order; the numbers at the pair aren't both positive, since the three add up to zero
+-- the predecessors in cell order; the premise that not both are positive holds of a dependency that is positive at c
 abbrev pub PredecessorRule : Type 0
 PredecessorRule = (p : Problem) (cell : Cell) (j c : ℕ) (m : ℤ × ℤ) (a b : Sign) → IsOf p cell → IsFurtherAt p cell j c → HasSign a m.0 → HasSign b m.1
     → ¬ ((pos 0 <ℤ m.0) × (pos 0 <ℤ m.1)) → IsListOf (IsPredecessorAt cell j c m) (predecessors_by cell j c a b)

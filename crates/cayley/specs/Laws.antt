@@ -8,7 +8,7 @@ use Rattle.cayley.specs.Normals.{Normal, IsNormal, HasSameValues, IsAbove, IsLev
 use Rattle.cayley.specs.Mixed.{IsAlive, IsMixedCell, IsLowestNormal}
 use Rattle.cayley.specs.Lives.{AliveJustBefore, AliveJustAfter, BeginsAt}
 use Rattle.cayley.specs.Parents.{Precedes}
-use Rattle.cayley.specs.Dependencies.{support_at, pair_at, IsFurtherAt, Numbers, number_at, IsDependencyOf, IsPositiveDependency, IsMultiple, sum_at, minus}
+use Rattle.cayley.specs.Dependencies.{pair_at, IsFurtherAt, Numbers, number_at, IsDependencyOf, IsPositiveDependency, IsMultiple, sum_at, minus, nth_support}
 use Rattle.cayley.specs.Flips.{for_first, for_second}
 
 -- an independent cell has a normal at every time, and all its normals there have the same values
@@ -30,9 +30,9 @@ OneLowestNormal = (p : Problem) (cell : Cell) → IsProblem (file_points p) → 
 
 -- above, level and below by the sign of the sum of the numbers times the heights
 pub record Sides (p : Problem) (cell : Cell) (j c : ℕ) (numbers : Numbers) (t : Time) (v : Normal) : Type 0 where
-  pub above : IsPositive (sum_at t numbers p cell (point_at (support_at p.supports j) c)) ↔ IsAbove t v (support_at p.supports j) (pair_at cell j).0 c
-  pub level : IsZero (sum_at t numbers p cell (point_at (support_at p.supports j) c)) ↔ IsLevel t v (support_at p.supports j) (pair_at cell j).0 c
-  pub below : IsPositive (minus (sum_at t numbers p cell (point_at (support_at p.supports j) c))) ↔ IsBelow t v (support_at p.supports j) (pair_at cell j).0 c
+  pub above : IsPositive (sum_at t numbers p cell (point_at (nth_support p.supports j) c)) ↔ IsAbove t v (nth_support p.supports j) (pair_at cell j).0 c
+  pub level : IsZero (sum_at t numbers p cell (point_at (nth_support p.supports j) c)) ↔ IsLevel t v (nth_support p.supports j) (pair_at cell j).0 c
+  pub below : IsPositive (minus (sum_at t numbers p cell (point_at (nth_support p.supports j) c))) ↔ IsBelow t v (nth_support p.supports j) (pair_at cell j).0 c
 
 -- an independent cell and a further point have a dependency that is positive there; every other is a multiple of it, and it tells the point's side at every time
 abbrev pub OneDependency : Type 0

@@ -12,6 +12,7 @@ pub mod Shares
 pub mod Dependencies
 pub mod Ties
 pub mod Flips
+pub mod Signs
 pub mod FlipRules
 pub mod Laws
 pub mod Stored

@@ -57,6 +57,6 @@ OneShare = (p : Problem) (b : Branch)
     × ((m n : ℕ) → IsSize p b m → IsSize p b n → m ≡ n)
     × (¬ (IsTrueBranch p b) → IsShare p b [] × IsSize p b 0)
 
--- in a still problem a mixed cell of the target is alive at all late times: file points rest, and every corner rises
+-- in a still problem with its version's ranks, whose corners rise with speed 1, a mixed cell of the target is alive at all late times
 abbrev pub TargetLaw : Type 0
 TargetLaw = (p : Problem) (cell : Cell) → IsStillProblem p → IsMixedCell p cell → AliveLate p cell

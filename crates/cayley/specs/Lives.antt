@@ -5,11 +5,11 @@ use Rattle.cayley.specs.Problems.{Problem}
 use Rattle.cayley.specs.Cells.{Cell}
 use Rattle.cayley.specs.Mixed.{IsAlive}
 
--- alive at all times of some interval that ends at t
+-- alive at all times of some open interval that ends at t
 abbrev pub AliveJustBefore : Problem → Cell → Time → Type 0
 AliveJustBefore p cell t = (u : Time) × IsBefore u t × ((x : Time) → IsBefore u x → IsBefore x t → IsAlive p cell x)
 
--- alive at all times of some interval that begins at t
+-- alive at all times of some open interval that begins at t
 abbrev pub AliveJustAfter : Problem → Cell → Time → Type 0
 AliveJustAfter p cell t = (u : Time) × IsBefore t u × ((x : Time) → IsBefore t x → IsBefore x u → IsAlive p cell x)
 

@@ -7,11 +7,11 @@ use Rattle.cayley.specs.Problems.{Problem, file_points}
 use Rattle.cayley.specs.Cells.{Cell, IsOf, IsIndependent}
 use Rattle.cayley.specs.Normals.{Normal, IsNormal, AllAbove}
 
--- independent, and some normal has every further point above
+-- a cell of the problem, independent, and some normal has every further point above
 abbrev pub IsAlive : Problem → Cell → Time → Type 0
 IsAlive p cell t = IsOf p cell × IsIndependent p cell × ((v : Normal) × IsNormal p cell t v × AllAbove p cell t v)
 
--- alive among the file points alone, which rest, so that any time serves
+-- alive at time 0 among the file points alone; where these rest any time serves
 abbrev pub IsMixedCell : Problem → Cell → Type 0
 IsMixedCell p cell = IsAlive (file_points p) cell time_zero
 

@@ -4,7 +4,7 @@ use Rattle.cayley.specs.Times.{Time, IsBefore, IsSameTime, time_zero}
 use Rattle.cayley.specs.Problems.{Problem, IsProblem}
 use Rattle.cayley.specs.Cells.{Cell, IsOf, IsIndependent}
 use Rattle.cayley.specs.Normals.{Normal, IsNormal, IsLevel, NoneBelow}
-use Rattle.cayley.specs.Dependencies.{support_at, pair_at}
+use Rattle.cayley.specs.Dependencies.{pair_at, nth_support}
 use Rattle.cayley.specs.Ties.{IsTie}
 use Rattle.cayley.specs.StoredTies.{Spot, IsEarlier, IsFurtherSpot, IsAlwaysLevel, ShowsTie}
 
@@ -29,7 +29,7 @@ NoUpperEnd p cell = (u : Time) → ¬ (IsUpperEnd p cell u)
 -- a further point that is level at t, whatever the normal
 abbrev pub IsLevelThen : Problem → Cell → Time → Spot → Type 0
 IsLevelThen p cell t x = IsFurtherSpot p cell x
-    × ((v : Normal) → IsNormal p cell t v → IsLevel t v (support_at p.supports (x.0 - 1)) (pair_at cell (x.0 - 1)).0 x.1)
+    × ((v : Normal) → IsNormal p cell t v → IsLevel t v (nth_support p.supports (x.0 - 1)) (pair_at cell (x.0 - 1)).0 x.1)
 
 -- the first place with a property
 abbrev pub IsFirst : (Spot → Type 0) → Spot → Type 0

@@ -50,3 +50,8 @@ AllAbove p cell t v = EachPair p.supports cell (λ s a b. (c : ℕ) → IsFurthe
 -- no further point is below: each is above or level
 abbrev pub NoneBelow : Problem → Cell → Time → Normal → Type 0
 NoneBelow p cell t v = EachPair p.supports cell (λ s a b. (c : ℕ) → IsFurther s a b c → IsAbove t v s a c ⊎ IsLevel t v s a c)
+
+abbrev pub values : Time → List ℤ → List ℤ → List (List ℤ)
+values t [] qs = []
+values t (p ∷ ps) [] = []
+values t (p ∷ ps) (q ∷ qs) = add ((t.over *ℤ p) ∷ []) (scale q t.entries) ∷ values t ps qs

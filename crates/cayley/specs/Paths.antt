@@ -23,9 +23,9 @@ sum_of [] = pos 0
 sum_of (x ∷ xs) = x +ℤ sum_of xs
 
 -- the greater of 1 and the greatest sum of a point's coordinates less m
-abbrev pub reach : List ℤ → List FilePoint → ℤ
-reach m [] = pos 1
-reach m (x ∷ points) = int_max (sum_of (sub x.coordinates m)) (reach m points)
+abbrev pub simplex_edge : List ℤ → List FilePoint → ℤ
+simplex_edge m [] = pos 1
+simplex_edge m (x ∷ points) = int_max (sum_of (sub x.coordinates m)) (simplex_edge m points)
 
 -- a corner has its start height at time 0 and rises with the time
 abbrev pub corner : List ℤ → ℤ → Point
@@ -45,7 +45,7 @@ direction_corners m d (suc own) k (start ∷ starts) = corner (add m (at_place k
 -- the corners of support i: the least coordinates m, then m + d e_1, .., m + d e_n
 abbrev pub corners : ℕ → List FilePoint → List ℤ → List Point
 corners i points starts =
-    corner (least_coordinates points) (pos 0) ∷ direction_corners (least_coordinates points) (reach (least_coordinates points) points) (i - 1) 0 starts
+    corner (least_coordinates points) (pos 0) ∷ direction_corners (least_coordinates points) (simplex_edge (least_coordinates points) points) (i - 1) 0 starts
 
 -- the start height of support i and direction k where the file gives none
 abbrev pub default_start : ℕ → ℕ → ℤ

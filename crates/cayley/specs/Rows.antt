@@ -21,3 +21,8 @@ edge_rows_from n i (s ∷ supports) (pair ∷ cell) = edge_row n i (point_at s p
 -- one row for each pair of the cell
 abbrev pub edge_rows : Problem → Cell → List (List ℤ)
 edge_rows p cell = edge_rows_from p.dimension 0 p.supports cell
+
+abbrev pub edges : List (List Point) → Cell → List (List ℤ)
+edges [] cell = []
+edges (s ∷ supports) [] = []
+edges (s ∷ supports) (pair ∷ cell) = sub (point_at s pair.1).coordinates (point_at s pair.0).coordinates ∷ edges supports cell

@@ -7,6 +7,8 @@ use Rattle.cayley.specs.declared.versions.Version.{Version as StoredVersion}
 use Rattle.cayley.specs.declared.versions.Version.TheVariants.{First, Second}
 use Rattle.cayley.specs.Files.{FilePoint, File}
 use Rattle.cayley.specs.Problems.{Version, version1, version2, Point, Problem, ranked_supports}
+use Rattle.cayley.specs.declared.found.FoundCell.{FoundCell}
+use Rattle.cayley.specs.Cells.{Cell}
 
 abbrev pub version_of : StoredVersion → Version
 version_of First = version1
@@ -43,3 +45,6 @@ problem_of version dimension supports = record {
 -- a file point of a problem, with its base as its height
 abbrev pub held : Point → FilePoint
 held x = record { coordinates = x.coordinates; height = x.base }
+
+abbrev pub cells_of : List FoundCell → List Cell
+cells_of found = map (λ (f : FoundCell). f.cell) found

@@ -5,7 +5,7 @@ use Rattle.cayley.specs.Problems.{Problem, IsProblem}
 use Rattle.cayley.specs.Cells.{Cell, IsOf, IsIndependent}
 use Rattle.cayley.specs.Normals.{Normal, IsNormal, IsLevel, NoneBelow}
 use Rattle.cayley.specs.Lives.{BeginsAt, EndsAt}
-use Rattle.cayley.specs.Dependencies.{support_at, pair_at, IsFurtherAt}
+use Rattle.cayley.specs.Dependencies.{pair_at, IsFurtherAt, nth_support}
 use Rattle.cayley.specs.Ties.{IsLevelAt, IsTie}
 
 -- support and position of a point
@@ -27,7 +27,7 @@ IsLevelSpot p cell t v x = (1 ≤ x.0) × IsLevelAt p cell t v (x.0 - 1) x.1
 -- a further point that is level at every time and normal
 abbrev pub IsAlwaysLevel : Problem → Cell → Spot → Type 0
 IsAlwaysLevel p cell x = IsFurtherSpot p cell x
-    × ((t : Time) (v : Normal) → IsNormal p cell t v → IsLevel t v (support_at p.supports (x.0 - 1)) (pair_at cell (x.0 - 1)).0 x.1)
+    × ((t : Time) (v : Normal) → IsNormal p cell t v → IsLevel t v (nth_support p.supports (x.0 - 1)) (pair_at cell (x.0 - 1)).0 x.1)
 
 -- one place: level at all times; two places: both level here, in order
 abbrev pub AreLevel : Problem → Cell → Time → Normal → Spot → Option Spot → Type 0

@@ -6,7 +6,7 @@ use Rattle.cayley.specs.declared.found.Place.{Place}
 use Rattle.cayley.specs.declared.found.TieProof.{TieProof}
 use Rattle.cayley.specs.Times.{Time}
 use Rattle.cayley.specs.Problems.{Problem}
-use Rattle.cayley.specs.StoredTies.{Spot, ShowsTie, ShowsTieAtEnd}
+use Rattle.cayley.specs.StoredTies.{Spot, ShowsTieAtEnd}
 
 abbrev pub spot_of : Place → Spot
 spot_of place = (place.support, place.position)
@@ -14,10 +14,6 @@ spot_of place = (place.support, place.position)
 -- the time that a proof names
 abbrev pub IsTimeOf : TieProof → Time → Type 0
 IsTimeOf proof t = (t.entries ≡ entries proof.time.parts) × (t.over ≡ proof.time.den)
-
--- the proof shows a tie of its cell
-abbrev pub IsTieProof : Problem → TieProof → Type 0
-IsTieProof p proof = (t : Time) × IsTimeOf proof t × ShowsTie p proof.cell t (spot_of proof.first) (option_map spot_of proof.second)
 
 -- at a time at which its cell begins or ends
 abbrev pub IsTieProofAtEnd : Problem → TieProof → Type 0

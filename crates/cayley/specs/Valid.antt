@@ -65,7 +65,7 @@ IsWithinCorners x = Each x.coordinates IsCornerCoordinate × IsCornerBase x.base
 abbrev pub IsMoving : Problem → Type 0
 IsMoving p = EachSupport 1 p.files p.supports (λ i f s. Each (drop f s) (λ (x : Point). x.speed ≡ pos 1))
 
--- a problem of either version whose file points rest and whose corners have speed 1
+-- a still problem whose points have the ranks of its version and whose corners rise with speed 1
 pub record IsStillProblem (p : Problem) : Type 0 where
   pub problem : IsProblem p
   pub ranks : HasRanks p

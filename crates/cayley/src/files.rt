@@ -16,7 +16,8 @@ use std::marker::Model;
 ///
 /// The dimension n is from 1 to 16, and there are n supports of 1 to 1,000 points. The points of a
 /// support have n coordinates from -1,000,000 to 1,000,000, no two the same ones, and heights from
-/// -1,000,000,000 to 1,000,000,000.
+/// -1,000,000,000 to 1,000,000,000. Start heights are n lists of n - 1 numbers from 1 to
+/// 1,000,000,000.
 #[derive(Drop)]
 pub struct LiftFile {
     version: Version,

@@ -105,7 +105,8 @@ pub fn one_share()
     ensures { OneShare }
 {}
 
-/// In a still problem a mixed cell of the target is alive at all late times (in outline after Huber and Sturmfels 1995).
+/// In a still problem with its version's ranks, whose corners rise with speed 1, a mixed cell of the target is alive at
+/// all late times (in outline after Huber and Sturmfels 1995).
 pub fn target_law()
     ensures { TargetLaw }
 {}
@@ -120,7 +121,7 @@ pub fn still_law()
     ensures { StillLaw }
 {}
 
-/// Whether a cell is a mixed cell of the target is seen at any time.
+/// Where the file points rest, whether a cell is a mixed cell of the target is seen at any time.
 pub fn mixed_law()
     ensures { MixedLaw }
 {}

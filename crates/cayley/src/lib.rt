@@ -17,7 +17,6 @@ mod reaches;
 mod rows;
 mod second_heights;
 mod shapes;
-mod trace;
 mod versions;
 
 pub use cells::Cell;
@@ -27,7 +26,6 @@ pub use found::{Begin, FoundCell, Normal, Place, Sign, TieProof};
 pub use limits::{COORDINATE, CORNER, DIMENSIONS, HEIGHT, POINTS};
 pub use points::{FilePoint, Point, Support};
 pub use problems::Problem;
-pub use trace::{Trace, TraceNode};
 pub use versions::Version;
 
 #[cfg(test)]

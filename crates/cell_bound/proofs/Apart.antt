@@ -5,7 +5,7 @@ use Rattle.int_vectors.specs.Vectors.{Each, at, add, sub, at_place}
 use Rattle.int_vectors.specs.Bounds.{size}
 use Rattle.cayley.specs.Problems.{Point}
 use Rattle.cayley.specs.Files.{FilePoint}
-use Rattle.cayley.specs.Paths.{lower, least_coordinates, sum_of, reach}
+use Rattle.cayley.specs.Paths.{lower, least_coordinates, sum_of, simplex_edge}
 use Rattle.start_system.proofs.Path.Reach.{Long, Inside}
 use Rattle.cell_bound.specs.Ranges.{AreNear}
 use Rattle.cell_bound.specs.Quiet.{IsNarrow}
@@ -84,12 +84,12 @@ each_low : (n : ℕ) (x : List ℤ) (points : List FilePoint) → length x ≡ n
 each_low n x [] l w h = tt
 each_low n x (y ∷ points) l w h = (low_by y.coordinates x (w.0 ∙ sym l) h.0, each_low n x points l w.1 h.1)
 
-reach_by : (m : List ℤ) (points : List FilePoint) (d : ℤ) → pos 1 ≤ℤ d → Each points (λ x. sum_of (sub x.coordinates m) ≤ℤ d) → reach m points ≤ℤ d
+reach_by : (m : List ℤ) (points : List FilePoint) (d : ℤ) → pos 1 ≤ℤ d → Each points (λ x. sum_of (sub x.coordinates m) ≤ℤ d) → simplex_edge m points ≤ℤ d
 reach_by m [] d one h = one
 reach_by m (x ∷ points) d one h =
     let r = reach_by m points d one h.1 in
     let a = h.0 in
-    let i = int_max_is (sum_of (sub x.coordinates m)) (reach m points) in
+    let i = int_max_is (sum_of (sub x.coordinates m)) (simplex_edge m points) in
     omega (arith, ints, r, a, i)
 
 module _ (n : ℕ) (all : List FilePoint) (some : 1 ≤ length all) (long : Long n all) (small : n ≤ 3) (count : length (least_coordinates all) ≡ n) where
@@ -100,7 +100,7 @@ module _ (n : ℕ) (all : List FilePoint) (some : 1 ≤ length all) (long : Long
       let r = low_sum (least_coordinates all) x.coordinates (low_least all x.coordinates some (each_low n x.coordinates all w.0 long h.0)) in
       (omega (arith, ints, r, count, small), sums points w.1 h.1)
 
-  pub reach_small : IsNarrow all → reach (least_coordinates all) all ≤ℤ pos 18
+  pub reach_small : IsNarrow all → simplex_edge (least_coordinates all) all ≤ℤ pos 18
   reach_small h = reach_by (least_coordinates all) all (pos 18) (omega (arith, ints)) (sums all long h)
 
 -- ---- corners

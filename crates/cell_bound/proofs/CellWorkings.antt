@@ -24,7 +24,7 @@ use Rattle.cell_bound.specs.Ranges.{FitsWhole, RowsFit, PointBelow, PointsBelow,
 use Rattle.cell_bound.specs.OwnLines.{FitOwnLines}
 use Rattle.cell_bound.proofs.RowRanges.{rows_within}
 use Rattle.cell_bound.proofs.Circuits.{circuit_fits}
-use Rattle.cayley.specs.Dependencies.{support_at, pair_at, IsFurtherAt}
+use Rattle.cayley.specs.Dependencies.{pair_at, IsFurtherAt, nth_support}
 
 product_some : (fs hs : List ℕ) (supports : List (List Point)) → HaveRanges fs hs supports → 1 ≤ product fs
 product_some [] hs supports w = omega arith
@@ -57,8 +57,8 @@ each_pair P Q (s ∷ supports) (x ∷ cell) f h = (f s x.0 x.1 h.0, each_pair P 
 
 -- the room of a further point, from that of all
 point_room : (m t : ℕ) (supports : List (List Point)) (cell : Cell) (j c : ℕ) → EachPair supports cell (λ s a b. (c : ℕ) → IsFurther s a b c → PointBelow m t (point_at s a) (point_at s c))
-    → IsFurther (support_at supports j) (pair_at cell j).0 (pair_at cell j).1 c
-    → PointBelow m t (point_at (support_at supports j) (pair_at cell j).0) (point_at (support_at supports j) c)
+    → IsFurther (nth_support supports j) (pair_at cell j).0 (pair_at cell j).1 c
+    → PointBelow m t (point_at (nth_support supports j) (pair_at cell j).0) (point_at (nth_support supports j) c)
 point_room m t [] [] j c h f = absurd (omega (arith, f.0, f.1))
 point_room m t [] (x ∷ cell) j c h f = absurd h
 point_room m t (s ∷ supports) [] j c h f = absurd h

@@ -4,6 +4,7 @@ use Rattle.int_vectors.specs.Vectors.{Each, at}
 use Rattle.int_vectors.specs.Bounds.{size, Within}
 use Rattle.int_vectors.specs.Fits.{FitsDot}
 use Rattle.int_vectors.proofs.BoundSums.{abs_sub, abs_dot, sum_fits}
+use Rattle.int_vectors.proofs.BoundRows.{within_weaker}
 use Rattle.reduced_rows.specs.Denominators.{lcm_from, FitsShares}
 use Rattle.reduced_rows.specs.Solutions.{scaled_column}
 use Rattle.reduced_rows.proofs.Outcome.{reduced_means}
@@ -32,10 +33,6 @@ products_below w v [] j h = omega arith
 products_below w v (x ∷ columns) zero h = abs_dot w v x h.0
 products_below w v (x ∷ columns) (suc j) h = products_below w v columns j h.1
 
-within_more : (v w : ℕ) (xs : List ℤ) → v ≤ w → Within v xs → Within w xs
-within_more v w [] l h = tt
-within_more v w (x ∷ xs) l h = (let a = h.0 in omega (arith, a, l), within_more v w xs l h.1)
-
 all_dots : (w : ℕ) (v : List ℤ) (columns : List (List ℤ)) → size v * w < 2 ^ 127 → Each columns (Within w) → Each columns (FitsDot (pos 0) v)
 all_dots w v [] l h = tt
 all_dots w v (x ∷ columns) l h = (sum_fits w (pos 0) v x h.0 (omega (arith, l)), all_dots w v columns l h.1)
@@ -57,7 +54,7 @@ circuit_fits p cell j c front further well of fits room =
           let l = lcm_from 0 1 made in
           let off : p.dimension ≤ length made + 2 = omega (arith, count) in
           let inside = columns_each (Within further) p.dimension (length made) (length made + 2) (lcm_from 0 1 made) made off
-          (λ i le. within_more (column_bound p.dimension i (edge_rows p cell)) further (scaled_column i 0 (lcm_from 0 1 made) made) (fits.0.1 i le) (columns_below p.dimension width (edge_rows p cell) made long e i le)) in
+          (λ i le. within_weaker (column_bound p.dimension i (edge_rows p cell)) further (scaled_column i 0 (lcm_from 0 1 made) made) (fits.0.1 i le) (columns_below p.dimension width (edge_rows p cell) made long e i le)) in
           let m = products_below further (difference p cell j c) (scaled_columns (length made) (length made + 2) (lcm_from 0 1 made) made) j inside in
           let d = abs_sub (at (products (difference p cell j c) (scaled_columns (length made) (length made + 2) (lcm_from 0 1 made) made)) j) (pos (lcm_from 0 1 made)) in
           let low = below.1 in

@@ -7,12 +7,8 @@ use Rattle.cayley.specs.Cells.{Cell, EachPair}
 use Rattle.cayley.specs.Rows.{unit_row, edge_row, edge_rows_from}
 use Rattle.cayley.proofs.OneCell.CellRows.{HaveLength, InRange, edge_long}
 use Rattle.elimination_bound.specs.Bounds.{front_size, IsRowBound, AreWithin}
+use Rattle.inner_normal.proofs.RowUnits.{at-past}
 use Rattle.cell_bound.specs.Ranges.{AreNear, HaveRanges}
-
-at-past : (xs ys : List ℤ) (m k : ℕ) → m ≡ length xs + k → at (xs ++ ys) m ≡ at ys k
-at-past [] ys m k e = let f : m ≡ k = omega (arith, e) in ap (at ys) f
-at-past (x ∷ xs) ys zero k e = absurd (omega (arith, e))
-at-past (x ∷ xs) ys (suc m) k e = at-past xs ys m k (omega (arith, e))
 
 zero_small : (n k : ℕ) → unsigned_abs (at (replicate n (pos 0)) k) ≤ 1
 zero_small zero k = omega arith

@@ -7,7 +7,7 @@ use Rattle.std.proofs.lemmas.List.{length-map}
 use Rattle.int_vectors.specs.Vectors.{Each, add, at_place}
 use Rattle.cayley.specs.Problems.{Point, with_rank, point_at}
 use Rattle.cayley.specs.Files.{FilePoint, File, resting}
-use Rattle.cayley.specs.Paths.{least_coordinates, reach, corner, later_corners, direction_corners, corners, default_start, default_starts_from, default_starts, starts_of, path_supports, path}
+use Rattle.cayley.specs.Paths.{least_coordinates, corner, later_corners, direction_corners, corners, default_start, default_starts_from, default_starts, starts_of, path_supports, path, simplex_edge}
 use Rattle.cayley.specs.Valid.{IsValidFile}
 use Rattle.cayley.proofs.OneCell.CellRows.{each_position}
 use Rattle.cayley.proofs.OneCell.Unperturbed.{unranked}
@@ -18,6 +18,7 @@ use Rattle.start_system.proofs.Path.Supports.{AreHeights}
 use Rattle.start_system.proofs.Path.Reach.{Long, Inside, length-least, inside_all, reach_positive}
 use Rattle.start_system.proofs.Started.Heights.{own_left_out, other_first, valid_lift, default_given, own_given}
 use Rattle.elimination_bound.specs.Bounds.{product, sum_over}
+use Rattle.cayley.proofs.Lists.Each.{each_append}
 use Rattle.cell_bound.specs.Ranges.{AreNear, HasRange, HaveRanges, FitsByRanges}
 use Rattle.cell_bound.specs.Quiet.{IsNarrow, IsQuiet, QuietLaw}
 use Rattle.cell_bound.specs.OwnLines.{QuietOwnLaw}
@@ -28,10 +29,6 @@ abbrev IsSmallHeight : ℤ → Type 0
 IsSmallHeight z = unsigned_abs z ≤ 1000
 
 -- ---- the points of one support
-each_both : {A : Type 0} (P : A → Type 0) (xs ys : List A) → Each xs P → Each ys P → Each (xs ++ ys) P
-each_both P [] ys h g = g
-each_both P (x ∷ xs) ys h g = (h.0, each_both P xs ys h.1 g)
-
 module _ (n : ℕ) (m : List ℤ) (d : ℤ) (count : length m ≡ n) (least : pos 0 ≤ℤ d) where
   file_points : (s : List FilePoint) → Each s (λ x. Inside n m d x.coordinates) → Each s (λ x. IsSmallHeight x.height) → Each (map resting s) (IsSettled n m d)
   file_points [] h g = tt
@@ -64,26 +61,26 @@ module _ (n : ℕ) (m : List ℤ) (d : ℤ) (count : length m ≡ n) (least : po
 
 module _ (n i : ℕ) (s : List FilePoint) (starts : List ℤ) (some : 1 ≤ length s) (long : Long n s) (small : n ≤ 3) (count : suc (length starts) ≤ n)
     (narrow : IsNarrow s) (heights : Each s (λ x. IsSmallHeight x.height)) (given : Each starts IsSmallHeight) where
-  all_settled : Each (map resting s ++ corners i s starts) (IsSettled n (least_coordinates s) (reach (least_coordinates s) s))
+  all_settled : Each (map resting s ++ corners i s starts) (IsSettled n (least_coordinates s) (simplex_edge (least_coordinates s) s))
   all_settled =
       let m = least_coordinates s in
       let l = length-least n s some long in
       let r = reach_positive (least_coordinates s) s in
-      let p : pos 0 ≤ℤ reach (least_coordinates s) s = omega (arith, ints, r) in
-      each_both (IsSettled n (least_coordinates s) (reach (least_coordinates s) s)) (map resting s) (corners i s starts)
-      (file_points n (least_coordinates s) (reach (least_coordinates s) s) l p s (inside_all n s long) heights)
-      (first_corner n (least_coordinates s) (reach (least_coordinates s) s) l p, directions n (least_coordinates s) (reach (least_coordinates s) s) l p (i - 1) 0 starts (omega (arith, count)) given)
+      let p : pos 0 ≤ℤ simplex_edge (least_coordinates s) s = omega (arith, ints, r) in
+      each_append (IsSettled n (least_coordinates s) (simplex_edge (least_coordinates s) s)) (map resting s) (corners i s starts)
+      (file_points n (least_coordinates s) (simplex_edge (least_coordinates s) s) l p s (inside_all n s long) heights)
+      (first_corner n (least_coordinates s) (simplex_edge (least_coordinates s) s) l p, directions n (least_coordinates s) (simplex_edge (least_coordinates s) s) l p (i - 1) 0 starts (omega (arith, count)) given)
 
   support_range : HasRange 36 2000 (map resting s ++ corners i s starts)
   support_range a c a_least a_most c_least c_most =
       let m = least_coordinates s in
       let l = length-least n s some long in
       let b = reach_small n s some long small l narrow in
-      let P : Point → Type 0 = IsSettled n (least_coordinates s) (reach (least_coordinates s) s) in
+      let P : Point → Type 0 = IsSettled n (least_coordinates s) (simplex_edge (least_coordinates s) s) in
       let points = map resting s ++ corners i s starts in
-      settled_near n (least_coordinates s) (reach (least_coordinates s) s) (point_at (map resting s ++ corners i s starts) a) (point_at (map resting s ++ corners i s starts) c) l b
-      (each_position (IsSettled n (least_coordinates s) (reach (least_coordinates s) s)) (map resting s ++ corners i s starts) a a_least a_most all_settled)
-      (each_position (IsSettled n (least_coordinates s) (reach (least_coordinates s) s)) (map resting s ++ corners i s starts) c c_least c_most all_settled)
+      settled_near n (least_coordinates s) (simplex_edge (least_coordinates s) s) (point_at (map resting s ++ corners i s starts) a) (point_at (map resting s ++ corners i s starts) c) l b
+      (each_position (IsSettled n (least_coordinates s) (simplex_edge (least_coordinates s) s)) (map resting s ++ corners i s starts) a a_least a_most all_settled)
+      (each_position (IsSettled n (least_coordinates s) (simplex_edge (least_coordinates s) s)) (map resting s ++ corners i s starts) c c_least c_most all_settled)
 
 -- ---- all supports
 -- a number for each support

@@ -1,5 +1,5 @@
 -- the ranges of the supports of a problem, one after the other
-use Rattle.std.proofs.Common.{◌≡◌, ◌⊎◌, ℕ, suc, ◌+◌, ◌-◌, ◌*◌, ◌^◌, ◌<◌, ◌≤◌, max, ℤ, pos, ◌-ℤ◌, unsigned_abs, List, [], ◌∷◌, ◌++◌, length, take, drop, drop-cons, drop_of_length-le, get_or, arith, refl, ap, ap₂, sym, subst, ◌∙◌, inl, inr}
+use Rattle.std.proofs.Common.{◌≡◌, ◌⊎◌, ℕ, suc, ◌+◌, ◌-◌, ◌*◌, ◌^◌, ◌<◌, ◌≤◌, max, ℤ, pos, ◌-ℤ◌, unsigned_abs, List, [], ◌∷◌, length, take, drop, drop-cons, drop_of_length-le, get_or, arith, refl, ap, ap₂, sym, subst, ◌∙◌, inl, inr}
 use Rattle.std.proofs.lemmas.Int.{ints}
 use Rattle.std.specs.Prelude.{slice_index_or}
 use native.Mathlib.Decide.{dec_le}
@@ -7,6 +7,7 @@ use Rattle.int_vectors.specs.Vectors.{Each, sub}
 use Rattle.int_vectors.specs.Bounds.{size}
 use Rattle.int_vectors.proofs.BoundSums.{abs_sub}
 use Rattle.int_vectors.proofs.Differences.{sub-more}
+use Rattle.int_vectors.proofs.BoundRows.{size-append}
 use Rattle.cayley.specs.Cells.{Cell, IsOf}
 use Rattle.cayley.specs.Problems.{Point, Problem, IsProblem, HasCorners, point_at}
 use Rattle.cayley.specs.Valid.{IsValidProblem, support_at}
@@ -20,14 +21,10 @@ use Rattle.cell_bound.proofs.Apart.{apart}
 use Rattle.cell_bound.proofs.CellWorkings.{cells_fit}
 
 -- ---- the sum of the differences of two points
-size_snoc : (xs : List ℤ) (x : ℤ) → size (xs ++ x ∷ []) ≡ size xs + unsigned_abs x
-size_snoc [] x = omega arith
-size_snoc (y ∷ xs) x = let h = size_snoc xs x in omega (arith, h)
-
 pub spread_more : (xs ys : List ℤ) (i t t' u : ℕ) → length xs ≡ length ys → i < length xs → t ≡ size (sub (take i xs) (take i ys)) → u ≡ unsigned_abs (get_or xs i (pos 0) -ℤ get_or ys i (pos 0)) → t' ≡ t + u
     → t' ≡ size (sub (take (i + 1) xs) (take (i + 1) ys))
 spread_more xs ys i t t' u l lt a b c =
-    let e = ap size (sub-more xs ys i l lt) ∙ size_snoc (sub (take i xs) (take i ys)) (get_or xs i (pos 0) -ℤ get_or ys i (pos 0)) in
+    let e = ap size (sub-more xs ys i l lt) ∙ size-append (sub (take i xs) (take i ys)) (get_or xs i (pos 0) -ℤ get_or ys i (pos 0)) in
     omega (arith, a, b, c, e)
 
 -- ---- all points near one

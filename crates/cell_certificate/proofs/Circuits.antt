@@ -8,6 +8,7 @@ use Rattle.cayley.specs.Dependencies.{number_at}
 use Rattle.inner_normal.specs.Coefficients.{pairs_of, last_of}
 use Rattle.inner_normal.specs.Orders.{two, three, in_order}
 use Rattle.inner_normal.proofs.PairNumbers.{pair_first, pair_second}
+use Rattle.inner_normal.proofs.PairLists.{pairs_count}
 use Rattle.cell_certificate.specs.Ties.{leading}
 
 leading_zero : (xs ys : List ℤ) → leading xs ≡ pos 0 → IsPositive (xs ++ ys) ↔ IsPositive ys
@@ -30,20 +31,7 @@ leading_other (pos zero ∷ xs) ys n =
 leading_other (pos (suc m) ∷ xs) ys n = ((λ p. omega (arith, ints)), (λ q. inl q))
 leading_other (negsuc m ∷ xs) ys n = ((λ p. elim p [ inl q ↦ q | inr q ↦ absurd (let e = q.0 in omega (arith, ints, e)) ]), (λ q. inl q))
 
-pub no_third : (x y : ℤ) → leading (x ∷ y ∷ pos 0 ∷ []) ≡ leading (x ∷ y ∷ [])
-no_third (pos zero) (pos zero) = refl
-no_third (pos zero) (pos (suc n)) = refl
-no_third (pos zero) (negsuc n) = refl
-no_third (pos (suc m)) y = refl
-no_third (negsuc m) y = refl
-
 -- ---- the numbers by places
-pub pairs_count : (xs : List ℤ) (n : ℕ) → length xs ≡ 2 * n + 1 → length (pairs_of xs) ≡ n
-pairs_count [] n e = absurd (omega (arith, e))
-pairs_count (x ∷ []) n e = (let h : 0 ≡ n = omega (arith, e) in h)
-pairs_count (x ∷ y ∷ xs) zero e = absurd (omega (arith, e))
-pairs_count (x ∷ y ∷ xs) (suc n) e = ap suc (pairs_count xs n (omega (arith, e)))
-
 pub last_is : (xs : List ℤ) (n k : ℕ) → k ≡ 2 * n → length xs ≡ 2 * n + 1 → last_of xs ≡ at xs k
 last_is [] n k h e = absurd (omega (arith, e))
 last_is (x ∷ []) n zero h e = refl

@@ -4,12 +4,12 @@ use Rattle.std.specs.Prelude.{IsTrue, nat_eq}
 use Rattle.std.proofs.Math.IntN.{ℤ, pos}
 use Rattle.std.specs.Int.{IsGcd, w128}
 use Rattle.wide_int.proofs.Signed.{as_pos}
-use Rattle.std.proofs.lemmas.Nat.Gcd.{dvd_antisymm, dvd_trans}
+use Rattle.std.proofs.lemmas.Nat.Gcd.{dvd_antisymm}
 use Rattle.std.proofs.Math.Nat.{one-dvd}
 use Prim.Native.Nat.{◌∣◌}
 use Rattle.int_vectors.specs.Vectors.{Each}
 use Rattle.int_vectors.specs.Contents.{content, DividesEach}
-use Rattle.int_vectors.proofs.EntryDivisors.{content_is}
+use Rattle.int_vectors.proofs.EntryDivisors.{content_is, divides_trans}
 use Rattle.cayley.specs.Mixed.{IsCoprime}
 
 each_from : (d : ℕ) (xs : List ℤ) → DividesEach d xs → Each xs (λ x. d ∣ unsigned_abs x)
@@ -20,16 +20,12 @@ each_to : (d : ℕ) (xs : List ℤ) → Each xs (λ x. d ∣ unsigned_abs x) →
 each_to d [] h = tt
 each_to d (x ∷ xs) h = (h.0, each_to d xs h.1)
 
-divides_less : (d g : ℕ) (xs : List ℤ) → d ∣ g → DividesEach g xs → DividesEach d xs
-divides_less d g [] h k = tt
-divides_less d g (x ∷ xs) h k = (dvd_trans d h k.0, divides_less d g xs h k.1)
-
 -- of a number and a vector: coprime exactly where the gcd is 1
 pub coprime_by : (den : ℤ) (v : List ℤ) (g : ℕ) → IsGcd (unsigned_abs den) (content v) g → (g ≡ 1) ↔ IsCoprime (den ∷ v)
 coprime_by den v g is =
     let c = content_is v in (
       (λ e d h. dvd_antisymm (subst (λ n. d ∣ n) e (is.2 d h.0 (c.1 d (each_to d v h.1)))) (one-dvd d)),
-      (λ coprime. coprime g (is.0, each_from g v (divides_less g (content v) v is.1 c.0))),
+      (λ coprime. coprime g (is.0, each_from g v (divides_trans g (content v) v is.1 c.0))),
     )
 
 equal_test : (a b : ℕ) → IsTrue (nat_eq a b) ↔ (a ≡ b)

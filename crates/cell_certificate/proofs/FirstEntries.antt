@@ -1,29 +1,32 @@
 -- the entries 0 of a cell's normals, and of the gaps under them, are told by v / den, which is level without infinitesimals
-use Rattle.std.proofs.Common.{◌≡◌, ℕ, List, [], ◌∷◌, length, map, arith, refl, sym, ap, ap₂, ◌∙◌, ◌<ℤ◌, inl, inr}
+use Rattle.std.proofs.Common.{◌≡◌, List, [], ◌∷◌, length, arith, refl, sym, ap, ap₂, ◌∙◌, ◌<ℤ◌, inl, inr}
 use Rattle.std.proofs.lemmas.Int.{ints}
 use Rattle.std.proofs.lemmas.List.{length-map}
 use Rattle.std.proofs.Math.IntN.{ℤ, pos, ◌+ℤ◌, ◌-ℤ◌, ◌*ℤ◌, neg_ℤ, *ℤ-zero}
-use Rattle.wide_int.proofs.Ring.{as_D, Ds, same_D, neg_mul_ℤ}
+use Rattle.wide_int.proofs.Ring.{as_D, Ds, same_D}
 use Rattle.wide_int.proofs.Order.{sign_cases, mul_pos_ℤ, mul_pos_neg_ℤ, zero_product}
-use Rattle.int_vectors.specs.Vectors.{IsZero, IsPositive, add, sub, scale, dot, at}
+use Rattle.int_vectors.specs.Vectors.{IsZero, IsPositive, add, sub, scale, dot, at, entries_at}
+use Rattle.int_vectors.proofs.Entries.{length-scale}
 use Rattle.cayley.specs.Times.{time_zero}
 use Rattle.cayley.specs.Problems.{Point, Problem, point_at}
 use Rattle.cayley.specs.Cells.{Cell, EachPair, IsIndependent}
 use Rattle.cayley.specs.Normals.{Normal, height, gap, IsNormal}
 use Rattle.cayley.specs.Mixed.{HasFirstEntries}
 use Rattle.cayley.specs.Resting.{rise}
-use Rattle.cayley.proofs.Algebra.ScaledInverse.{dot-add, dot-scale, length-scale}
-use Rattle.cayley.proofs.Algebra.RowNormals.{entry, gap-at, at-zero}
+use Rattle.cayley.proofs.Algebra.ScaledInverse.{dot-add, dot-scale}
+use Rattle.cayley.proofs.Algebra.RowNormals.{gap-at, at-zero}
 use Rattle.cayley.proofs.OneCell.CellNormals.{same_long}
+use Rattle.cayley.proofs.OneCell.OneNormal.{same_lists}
+use Rattle.cayley.proofs.Life.Targets.{positive_first}
 use Rattle.inner_normal.proofs.PairEquations.{first_rise}
 
 -- ---- entry 0 of a gap at time zero
-pub gap_first : (w : Normal) (a c : Point) → at (gap time_zero w a c) 0 ≡ dot (sub c.coordinates a.coordinates) (entry 0 w.entries) +ℤ w.over *ℤ (c.base -ℤ a.base)
+pub gap_first : (w : Normal) (a c : Point) → at (gap time_zero w a c) 0 ≡ dot (sub c.coordinates a.coordinates) (entries_at 0 w.entries) +ℤ w.over *ℤ (c.base -ℤ a.base)
 gap_first w a c =
     let d = sub c.coordinates a.coordinates in
     gap-at d w.entries (sub (height time_zero c) (height time_zero a)) (pos 1) w.over 0
-    ∙ ap (λ z. pos 1 *ℤ dot d (entry 0 w.entries) +ℤ w.over *ℤ z) (first_rise time_zero a c)
-    ∙ step (dot d (entry 0 w.entries)) w.over (c.base -ℤ a.base) (c.speed -ℤ a.speed)
+    ∙ ap (λ z. pos 1 *ℤ dot d (entries_at 0 w.entries) +ℤ w.over *ℤ z) (first_rise time_zero a c)
+    ∙ step (dot d (entries_at 0 w.entries)) w.over (c.base -ℤ a.base) (c.speed -ℤ a.speed)
   where
     step : (x o b s : ℤ) → pos 1 *ℤ x +ℤ o *ℤ (pos 1 *ℤ b +ℤ s *ℤ pos 0) ≡ x +ℤ o *ℤ b
     step x o b s = rw (*ℤ-zero s, plain b) (omega (arith, ints))
@@ -35,8 +38,8 @@ gap_first w a c =
 pub gap_rise : (w : Normal) (v : List ℤ) (den : ℤ) (a c : Point) → HasFirstEntries w v den → w.over *ℤ rise den v a c ≡ den *ℤ at (gap time_zero w a c) 0
 gap_rise w v den a c e =
     let d = sub c.coordinates a.coordinates in
-    let same = sym (dot-scale d w.over v) ∙ ap (dot d) e ∙ dot-scale d den (entry 0 w.entries) in
-    ring w.over den (c.base -ℤ a.base) (dot d v) (dot d (entry 0 w.entries)) same ∙ ap (λ z. den *ℤ z) (sym (gap_first w a c))
+    let same = sym (dot-scale d w.over v) ∙ ap (dot d) e ∙ dot-scale d den (entries_at 0 w.entries) in
+    ring w.over den (c.base -ℤ a.base) (dot d v) (dot d (entries_at 0 w.entries)) same ∙ ap (λ z. den *ℤ z) (sym (gap_first w a c))
   where
     open_left : (o den b x : ℤ) → o *ℤ (den *ℤ b +ℤ x) ≡ den *ℤ (o *ℤ b) +ℤ o *ℤ x
     open_left o den b x = rw (as_D o, as_D den, as_D b, as_D x) (simp Ds (same_D _ _ _ _ (omega arith)))
@@ -48,10 +51,6 @@ gap_rise w v den a c e =
     ring o den b x y h = let l = open_left o den b x in let r = open_right o den b y in omega (arith, ints, h, l, r)
 
 -- ---- signs by entry 0
-positive_by_first : (u : List ℤ) → pos 0 <ℤ at u 0 → IsPositive u
-positive_by_first [] p = absurd (omega (arith, ints, p))
-positive_by_first (x ∷ u) p = inl p
-
 negative_by_first : (u : List ℤ) → at u 0 <ℤ pos 0 → ¬ (IsPositive u)
 negative_by_first [] n p = p
 negative_by_first (x ∷ u) n (inl p) = omega (arith, ints, n, p)
@@ -63,7 +62,7 @@ module _ (w : Normal) (v : List ℤ) (den : ℤ) (a c : Point) (h : pos 0 <ℤ d
       let g = at (gap time_zero w a c) 0 in
       let k = gap_rise w v den a c e in
       let q = mul_pos_ℤ w.over (rise den v a c) w.positive p in
-      positive_by_first (gap time_zero w a c)
+      positive_first (gap time_zero w a c)
       (sign_cases g
       (λ n. absurd (let m = mul_pos_neg_ℤ den g h n in omega (arith, ints, k, q, m)))
       (λ z. absurd (let m = ap (λ y. den *ℤ y) z ∙ *ℤ-zero den in omega (arith, ints, k, q, m)))
@@ -95,21 +94,13 @@ first_level w v den a c e z =
 
 -- ---- the entries 0 of a cell's normal
 -- a difference that is zero, of lists of one length
-equal_multiples : (a b : ℤ) (xs ys : List ℤ) → length xs ≡ length ys → IsZero (add (scale a xs) (scale (neg_ℤ b) ys)) → scale a xs ≡ scale b ys
-equal_multiples a b [] [] l z = refl
-equal_multiples a b [] (y ∷ ys) l z = absurd (omega (arith, l))
-equal_multiples a b (x ∷ xs) [] l z = absurd (omega (arith, l))
-equal_multiples a b (x ∷ xs) (y ∷ ys) l z =
-    let h : a *ℤ x ≡ b *ℤ y = (let e = z.0 in let n = neg_mul_ℤ b y in omega (arith, ints, e, n)) in
-    ap₂ (λ u us. u ∷ us) h (equal_multiples a b xs ys (omega (arith, l)) z.1)
-
 flat : (w : Normal) (v : List ℤ) (den : ℤ) (a c : Point) → rise den v a c ≡ pos 0 → IsZero (gap time_zero w a c)
-    → dot (sub c.coordinates a.coordinates) (add (scale w.over v) (scale (neg_ℤ den) (entry 0 w.entries))) ≡ pos 0
+    → dot (sub c.coordinates a.coordinates) (add (scale w.over v) (scale (neg_ℤ den) (entries_at 0 w.entries))) ≡ pos 0
 flat w v den a c r z =
     let d = sub c.coordinates a.coordinates in
     let g = sym (gap_first w a c) ∙ at-zero (gap time_zero w a c) 0 z in
-    dot-add d (scale w.over v) (scale (neg_ℤ den) (entry 0 w.entries)) ∙ ap₂ ◌+ℤ◌ (dot-scale d w.over v) (dot-scale d (neg_ℤ den) (entry 0 w.entries))
-    ∙ ring w.over den (c.base -ℤ a.base) (dot d v) (dot d (entry 0 w.entries)) ∙ rw (r, g) (rw (*ℤ-zero w.over, *ℤ-zero (neg_ℤ den)) refl)
+    dot-add d (scale w.over v) (scale (neg_ℤ den) (entries_at 0 w.entries)) ∙ ap₂ ◌+ℤ◌ (dot-scale d w.over v) (dot-scale d (neg_ℤ den) (entries_at 0 w.entries))
+    ∙ ring w.over den (c.base -ℤ a.base) (dot d v) (dot d (entries_at 0 w.entries)) ∙ rw (r, g) (rw (*ℤ-zero w.over, *ℤ-zero (neg_ℤ den)) refl)
   where
     ring : (o den b x y : ℤ) → o *ℤ x +ℤ neg_ℤ den *ℤ y ≡ o *ℤ (den *ℤ b +ℤ x) +ℤ neg_ℤ den *ℤ (y +ℤ o *ℤ b)
     ring o den b x y = rw (as_D o, as_D den, as_D b, as_D x, as_D y) (simp Ds (same_D _ _ _ _ (omega arith)))
@@ -117,14 +108,14 @@ flat w v den a c r z =
 pub first_entries_of : (p : Problem) (cell : Cell) (v : List ℤ) (den : ℤ) (w : Normal) → length v ≡ p.dimension → IsIndependent p cell
     → EachPair p.supports cell (λ s a b. rise den v (point_at s a) (point_at s b) ≡ pos 0) → IsNormal p cell time_zero w → HasFirstEntries w v den
 first_entries_of p cell v den w long ind levels n =
-    let l : length (entry 0 w.entries) ≡ p.dimension = length-map w.entries (λ e. at e 0) ∙ n.0 in
-    equal_multiples w.over den v (entry 0 w.entries) (long ∙ sym l)
-    (ind _ (same_long (scale w.over v) (scale (neg_ℤ den) (entry 0 w.entries)) p.dimension (length-scale w.over v ∙ long) (length-scale (neg_ℤ den) (entry 0 w.entries) ∙ l))
+    let l : length (entries_at 0 w.entries) ≡ p.dimension = length-map w.entries (λ e. at e 0) ∙ n.0 in
+    same_lists w.over den v (entries_at 0 w.entries) (long ∙ sym l)
+    (ind _ (same_long (scale w.over v) (scale (neg_ℤ den) (entries_at 0 w.entries)) p.dimension (length-scale w.over v ∙ long) (length-scale (neg_ℤ den) (entries_at 0 w.entries) ∙ l))
     (each p.supports cell levels n.1))
   where
     each : (supports : List (List Point)) (cell : Cell) → EachPair supports cell (λ s a b. rise den v (point_at s a) (point_at s b) ≡ pos 0)
         → EachPair supports cell (λ s a b. IsZero (gap time_zero w (point_at s a) (point_at s b)))
-        → EachPair supports cell (λ s a b. dot (sub (point_at s b).coordinates (point_at s a).coordinates) (add (scale w.over v) (scale (neg_ℤ den) (entry 0 w.entries))) ≡ pos 0)
+        → EachPair supports cell (λ s a b. dot (sub (point_at s b).coordinates (point_at s a).coordinates) (add (scale w.over v) (scale (neg_ℤ den) (entries_at 0 w.entries))) ≡ pos 0)
     each [] [] r g = tt
     each [] (x ∷ cell) r g = r
     each (s ∷ supports) [] r g = r

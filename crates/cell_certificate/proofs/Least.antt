@@ -1,7 +1,6 @@
 -- each further point is above under every normal: by the sums where none is 0 or no point has an infinitesimal, else point by point
-use Rattle.std.proofs.Common.{◌≡◌, ◌≢◌, ◌↔◌, ℕ, zero, suc, ◌+◌, ◌<◌, ◌≤◌, Bool, List, [], ◌∷◌, length, map, arith, refl, sym, ap, subst, ◌∙◌, ◌<ℤ◌, Result, Ok, Err}
+use Rattle.std.proofs.Common.{◌≡◌, ◌≢◌, ◌↔◌, ℕ, suc, Bool, List, [], ◌∷◌, length, arith, refl, sym, ap, subst, ◌∙◌, Result, Ok, Err}
 use Rattle.std.specs.Prelude.{IsTrue, MatchResult}
-use Rattle.std.proofs.lemmas.Int.{ints}
 use Rattle.std.proofs.Math.IntN.{ℤ, pos}
 use Rattle.wide_int.proofs.Order.{sign_cases}
 use Rattle.int_vectors.specs.Vectors.{IsZero}
@@ -12,8 +11,8 @@ use Rattle.reduced_rows.specs.declared.faults.FromFault.TheVariants.{Overflow, O
 use Rattle.cayley.specs.Times.{time_zero}
 use Rattle.cayley.specs.Problems.{Version, version1, version2, Point, Problem, IsProblem, HasRanks, point_at, unperturbed, ranked_supports}
 use Rattle.cayley.specs.Cells.{Cell, EachPair, IsFurther}
-use Rattle.cayley.specs.Dependencies.{support_at, pair_at, IsFurtherAt}
-use Rattle.cayley.specs.Normals.{Normal, gap, IsNormal, IsAbove, AllAbove}
+use Rattle.cayley.specs.Dependencies.{pair_at, nth_support}
+use Rattle.cayley.specs.Normals.{gap, IsNormal, IsAbove}
 use Rattle.cayley.specs.Resting.{rise, normal_over}
 use Rattle.cayley.specs.Rows.{edge_rows}
 use Rattle.cayley.proofs.Flipping.Places.{pairs_long, further_bound}
@@ -34,7 +33,7 @@ use Rattle.cell_certificate.proofs.Together.{pairs_map, pairs_both}
 
 -- by places, and pair by pair
 each_of_places : (Q : List Point → ℕ → ℕ → Type 0) (ss : List (List Point)) (cell : Cell) → length ss ≡ length cell
-    → ((j c : ℕ) → IsFurther (support_at ss j) (pair_at cell j).0 (pair_at cell j).1 c → Q (support_at ss j) (pair_at cell j).0 c)
+    → ((j c : ℕ) → IsFurther (nth_support ss j) (pair_at cell j).0 (pair_at cell j).1 c → Q (nth_support ss j) (pair_at cell j).0 c)
     → EachPair ss cell (λ s a b. (c : ℕ) → IsFurther s a b c → Q s a c)
 each_of_places Q [] [] n f = tt
 each_of_places Q [] (x ∷ cell) n f = absurd (omega (arith, n))

@@ -1,23 +1,23 @@
-pub mod Rising
+mod Rising
 pub mod Positions
 pub mod Turns
 pub mod Together
 pub mod Supports
-pub mod Coprime
+mod Coprime
 pub mod Levels
-pub mod Verdicts
+mod Verdicts
 pub mod OneAnswer
 pub mod PlainPoints
 pub mod MixedLines
 pub mod LowestLevel
-pub mod Multiples
+mod Multiples
 pub mod WorkedSums
 pub mod WrittenLines
-pub mod FirstEntries
-pub mod Blind
-pub mod Over
+mod FirstEntries
+mod Blind
+mod Over
 pub mod PlainSums
-pub mod Circuits
-pub mod Spots
-pub mod PointOver
+mod Circuits
+mod Spots
+mod PointOver
 pub mod Least

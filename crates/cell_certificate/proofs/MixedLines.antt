@@ -1,7 +1,7 @@
 -- lines that pass are mixed cells with their normals in lowest terms, in cell order
 use Rattle.std.proofs.Common.{◌≡◌, List, [], ◌∷◌, map, refl, sym, ap, subst, Option, None, Some}
 use Rattle.std.proofs.Math.IntN.{ℤ}
-use Rattle.int_vectors.specs.Vectors.{Each, scale, at}
+use Rattle.int_vectors.specs.Vectors.{Each, at}
 use Rattle.cayley.specs.Times.{time_zero}
 use Rattle.cayley.specs.Problems.{Problem}
 use Rattle.cayley.specs.Files.{File, plain_problem}
@@ -17,8 +17,9 @@ use Rattle.cell_certificate.specs.Answers.{IsRight}
 use Rattle.cell_certificate.specs.Written.{IsListed, AreListed, AreMixed}
 use Rattle.cell_certificate.proofs.FirstEntries.{first_entries_of}
 use Rattle.cell_certificate.proofs.Levels.{level_from}
-use Rattle.cell_certificate.proofs.PlainPoints.{own_points, valid_of}
+use Rattle.cell_certificate.proofs.PlainPoints.{own_points}
 use Rattle.cayley.proofs.OneCell.CellNormals.{a_normal}
+use Rattle.cayley.proofs.OneCell.PlainProblems.{plain_valid}
 
 pub first_entries : (v : List ℤ) → map (λ (e : List ℤ). at e 0) (map (λ (x : ℤ). x ∷ []) v) ≡ v
 first_entries [] = refl
@@ -26,7 +27,7 @@ first_entries (x ∷ v) = ap (λ l. x ∷ l) (first_entries v)
 
 module _ (file : File) (valid : IsValidFile file) where
   some_normal : (x : ListedCell) → IsListed (plain_problem file) x → IsIndependent (plain_problem file) x.cell → (w : Normal) × IsNormal (plain_problem file) x.cell time_zero w
-  some_normal x l ind = a_normal (plain_problem file) x.cell (valid_of file valid).shape.problem l.0 ind time_zero
+  some_normal x l ind = a_normal (plain_problem file) x.cell (plain_valid file valid).shape.problem l.0 ind time_zero
 
   line_mixed : (before : Option Cell) (x : ListedCell) → IsListed (plain_problem file) x → IsJudged (plain_problem file) before x Passes → IsMixedCell (plain_problem file) x.cell
   line_mixed before x l d =

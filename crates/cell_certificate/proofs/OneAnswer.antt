@@ -1,13 +1,13 @@
 -- a line is judged in one way, so each answer comes exactly where it has to
 use Rattle.std.proofs.Common.{◌≡◌, ◌↔◌, ℕ, List, [], ◌∷◌, refl, sym, ap, subst, ◌∙◌, Option, None, Some, Ok, Err, inl, inr}
-use Rattle.std.specs.Prelude.{unwrap_or}
+use Rattle.wide_int.proofs.Bools.{some_is}
 use Rattle.cayley.specs.Problems.{Problem}
 use Rattle.cayley.specs.Files.{plain_problem}
 use Rattle.cayley.specs.Cells.{Cell}
 use Rattle.listing_text.specs.declared.listing.Listing.{Listing}
 use Rattle.listing_text.specs.declared.listing.ListedCell.{ListedCell}
 use Rattle.cell_certificate.specs.declared.judgement.Judgement.{Judgement}
-use Rattle.cell_certificate.specs.declared.judgement.Judgement.TheVariants.{Passes, Unfit, Order, Dependent, NotLevel, NotLess, NotLowest}
+use Rattle.cell_certificate.specs.declared.judgement.Judgement.TheVariants.{Passes, Unfit, Order, Dependent, NotLevel, NotLeast, NotLowest}
 use Rattle.cell_certificate.specs.declared.verdict.Verdict.TheVariants.{Yes, No}
 use Rattle.cell_certificate.specs.declared.verdict.CheckFault.TheVariants.{Overflow, OutOfMemory}
 use Rattle.cell_certificate.specs.Judgements.{HasSums, HasLevel, HasTies, IsNormalJudged, IsJudged, AllPass, FirstRefused}
@@ -24,7 +24,7 @@ one_judgement p before x Order Unfit a (inl b) = absurd (a b.0)
 one_judgement p before x Order Unfit a (inr b) = absurd (a b.0.0)
 one_judgement p before x Order Dependent a b = absurd (a b.0)
 one_judgement p before x Order NotLevel a b = absurd (a b.0.0)
-one_judgement p before x Order NotLess a b = absurd (a b.0.0)
+one_judgement p before x Order NotLeast a b = absurd (a b.0.0)
 one_judgement p before x Order NotLowest a b = absurd (a b.0.0)
 one_judgement p before x Order Passes a b = absurd (a b.0.0)
 one_judgement p before x Unfit Order (inl a) b = absurd (b a.0)
@@ -34,8 +34,8 @@ one_judgement p before x Unfit Dependent (inl a) b = absurd (a.1 b.1)
 one_judgement p before x Unfit Dependent (inr a) b = absurd (b.2 a.0.2)
 one_judgement p before x Unfit NotLevel (inl a) b = absurd (a.1 b.0.1)
 one_judgement p before x Unfit NotLevel (inr a) b = absurd (never_unfit p x a.1 b.1 (λ l. absurd (b.2 l)))
-one_judgement p before x Unfit NotLess (inl a) b = absurd (a.1 b.0.1)
-one_judgement p before x Unfit NotLess (inr a) b = absurd (never_unfit p x a.1 b.1 (λ l. b.3))
+one_judgement p before x Unfit NotLeast (inl a) b = absurd (a.1 b.0.1)
+one_judgement p before x Unfit NotLeast (inr a) b = absurd (never_unfit p x a.1 b.1 (λ l. b.3))
 one_judgement p before x Unfit NotLowest (inl a) b = absurd (a.1 b.0.1)
 one_judgement p before x Unfit NotLowest (inr a) b = absurd (never_unfit p x a.1 b.1 (λ l. b.3))
 one_judgement p before x Unfit Passes (inl a) b = absurd (a.1 b.0.1)
@@ -45,7 +45,7 @@ one_judgement p before x Dependent Unfit a (inl b) = absurd (b.1 a.1)
 one_judgement p before x Dependent Unfit a (inr b) = absurd (a.2 b.0.2)
 one_judgement p before x Dependent Dependent a b = refl
 one_judgement p before x Dependent NotLevel a b = absurd (a.2 b.0.2)
-one_judgement p before x Dependent NotLess a b = absurd (a.2 b.0.2)
+one_judgement p before x Dependent NotLeast a b = absurd (a.2 b.0.2)
 one_judgement p before x Dependent NotLowest a b = absurd (a.2 b.0.2)
 one_judgement p before x Dependent Passes a b = absurd (a.2 b.0.2)
 one_judgement p before x NotLevel Order a b = absurd (b a.0.0)
@@ -53,23 +53,23 @@ one_judgement p before x NotLevel Unfit a (inl b) = absurd (b.1 a.0.1)
 one_judgement p before x NotLevel Unfit a (inr b) = absurd (never_unfit p x b.1 a.1 (λ l. absurd (a.2 l)))
 one_judgement p before x NotLevel Dependent a b = absurd (b.2 a.0.2)
 one_judgement p before x NotLevel NotLevel a b = refl
-one_judgement p before x NotLevel NotLess a b = absurd (a.2 b.2)
+one_judgement p before x NotLevel NotLeast a b = absurd (a.2 b.2)
 one_judgement p before x NotLevel NotLowest a b = absurd (a.2 b.2)
 one_judgement p before x NotLevel Passes a b = absurd (a.2 b.2)
-one_judgement p before x NotLess Order a b = absurd (b a.0.0)
-one_judgement p before x NotLess Unfit a (inl b) = absurd (b.1 a.0.1)
-one_judgement p before x NotLess Unfit a (inr b) = absurd (never_unfit p x b.1 a.1 (λ l. a.3))
-one_judgement p before x NotLess Dependent a b = absurd (b.2 a.0.2)
-one_judgement p before x NotLess NotLevel a b = absurd (b.2 a.2)
-one_judgement p before x NotLess NotLess a b = refl
-one_judgement p before x NotLess NotLowest a b = absurd (a.4 b.4)
-one_judgement p before x NotLess Passes a b = absurd (a.4 b.4)
+one_judgement p before x NotLeast Order a b = absurd (b a.0.0)
+one_judgement p before x NotLeast Unfit a (inl b) = absurd (b.1 a.0.1)
+one_judgement p before x NotLeast Unfit a (inr b) = absurd (never_unfit p x b.1 a.1 (λ l. a.3))
+one_judgement p before x NotLeast Dependent a b = absurd (b.2 a.0.2)
+one_judgement p before x NotLeast NotLevel a b = absurd (b.2 a.2)
+one_judgement p before x NotLeast NotLeast a b = refl
+one_judgement p before x NotLeast NotLowest a b = absurd (a.4 b.4)
+one_judgement p before x NotLeast Passes a b = absurd (a.4 b.4)
 one_judgement p before x NotLowest Order a b = absurd (b a.0.0)
 one_judgement p before x NotLowest Unfit a (inl b) = absurd (b.1 a.0.1)
 one_judgement p before x NotLowest Unfit a (inr b) = absurd (never_unfit p x b.1 a.1 (λ l. a.3))
 one_judgement p before x NotLowest Dependent a b = absurd (b.2 a.0.2)
 one_judgement p before x NotLowest NotLevel a b = absurd (b.2 a.2)
-one_judgement p before x NotLowest NotLess a b = absurd (b.4 a.4)
+one_judgement p before x NotLowest NotLeast a b = absurd (b.4 a.4)
 one_judgement p before x NotLowest NotLowest a b = refl
 one_judgement p before x NotLowest Passes a b = absurd (a.5 b.5)
 one_judgement p before x Passes Order a b = absurd (b a.0.0)
@@ -77,7 +77,7 @@ one_judgement p before x Passes Unfit a (inl b) = absurd (b.1 a.0.1)
 one_judgement p before x Passes Unfit a (inr b) = absurd (never_unfit p x b.1 a.1 (λ l. a.3))
 one_judgement p before x Passes Dependent a b = absurd (b.2 a.0.2)
 one_judgement p before x Passes NotLevel a b = absurd (b.2 a.2)
-one_judgement p before x Passes NotLess a b = absurd (b.4 a.4)
+one_judgement p before x Passes NotLeast a b = absurd (b.4 a.4)
 one_judgement p before x Passes NotLowest a b = absurd (b.5 a.5)
 one_judgement p before x Passes Passes a b = refl
 
@@ -85,7 +85,7 @@ one_judgement p before x Passes Passes a b = refl
 abbrev Refuses : Problem → (Option Cell → ListedCell → Type 0) → Type 0
 Refuses p P = (before : Option Cell) (x : ListedCell) → P before x → ¬ (IsJudged p before x Passes)
 
-none_is : {P : Type 0} (n : ℕ) → None ≡ Some n → P
+pub none_is : {P : Type 0} (n : ℕ) → None ≡ Some n → P
 none_is n e = absurd (subst tells (sym e) tt)
   where
     tells : Option ℕ → Type 0
@@ -104,7 +104,7 @@ large_refuses p number before x w d = apart (one_judgement p before x Unfit Pass
     tells Order = ⊥
     tells Dependent = ⊥
     tells NotLevel = ⊥
-    tells NotLess = ⊥
+    tells NotLeast = ⊥
     tells NotLowest = ⊥
 
     apart : Unfit ≡ Passes → ⊥
@@ -161,13 +161,10 @@ yes_exactly listing (Err (Overflow n)) a m = (
 )
 yes_exactly listing (Err OutOfMemory) a m = absurd m
 
-some_number : (m n : ℕ) → Some m ≡ Some n → m ≡ n
-some_number m n e = ap (λ o. unwrap_or o m) e
-
 same_wrong : (p : Problem) (n k m l : ℕ) → Both (WrongAt p n k) (WrongAt p m l) → (n ≡ m) × (k ≡ l)
 same_wrong p n k m l b = (
   sym b.first.0 ∙ b.second.0,
-  some_number k l (sym b.first.1.1 ∙ ap reason_of (one_judgement p b.before b.line b.first.1.0 b.second.1.0 b.first.1.2 b.second.1.2) ∙ b.second.1.1),
+  some_is k l (sym b.first.1.1 ∙ ap reason_of (one_judgement p b.before b.line b.first.1.0 b.second.1.0 b.first.1.2 b.second.1.2) ∙ b.second.1.1),
 )
 
 not_both : (p : Problem) (n k m : ℕ) → Both (WrongAt p n k) (TooLargeAt p m) → ⊥

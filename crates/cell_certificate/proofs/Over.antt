@@ -4,19 +4,20 @@ use Rattle.std.proofs.lemmas.Int.{ints}
 use Rattle.std.proofs.Math.IntN.{ℤ, pos, ◌+ℤ◌, ◌*ℤ◌, *ℤ-zero}
 use Rattle.wide_int.proofs.Order.{zero_product}
 use Rattle.int_vectors.specs.Vectors.{IsPositive, add, scale, at}
+use Rattle.int_vectors.proofs.Entries.{at-scale, at-add}
 use Rattle.cayley.specs.Times.{time_zero}
 use Rattle.cayley.specs.Problems.{Point, Problem, IsProblem, point_at}
 use Rattle.cayley.specs.Cells.{Cell, EachPair, IsOf, IsIndependent}
-use Rattle.cayley.specs.Normals.{Normal, mark, height, gap, IsNormal}
+use Rattle.cayley.specs.Normals.{Normal, mark, height, IsNormal}
 use Rattle.cayley.specs.Mixed.{HasFirstEntries}
-use Rattle.cayley.specs.Dependencies.{Numbers, support_at, pair_at, IsFurtherAt, total, sum_of_heights, sum_at, IsPositiveDependency}
-use Rattle.cayley.proofs.Algebra.ScaledInverse.{at-add, at-scale}
+use Rattle.cayley.specs.Dependencies.{Numbers, pair_at, IsFurtherAt, total, sum_of_heights, sum_at, IsPositiveDependency, nth_support}
 use Rattle.cayley.proofs.Flipping.Places.{pairs_long, further_bound}
 use Rattle.cayley.proofs.OneCell.CellNormals.{a_normal}
 use Rattle.cayley.proofs.OneCell.CellNumbers.{total-same}
 use Rattle.cayley.proofs.OneCell.OneDependency.{sum_gap, sides}
 use Rattle.inner_normal.specs.Orders.{in_order, ordered}
-use Rattle.inner_normal.proofs.RankOrder.{Ranked, sum_in, numbers_in, sign_in, ranked, ranked_pairs, numbers_are, marked, sum_is, HaveRanksFrom, rise_is}
+use Rattle.inner_normal.proofs.RankOrder.{sum_in, numbers_in, sign_in, ranked_pairs, numbers_are, marked, sum_is, HaveRanksFrom, rise_is}
+use Rattle.inner_normal.specs.RankedNumbers.{Ranked, ranked}
 use Rattle.cell_certificate.specs.Tests.{sum_of}
 use Rattle.cell_certificate.specs.Ties.{IsOverAt}
 use Rattle.cell_certificate.proofs.FirstEntries.{first_entries_of, over_first, below_first, level_first}
@@ -55,22 +56,22 @@ module _ (p : Problem) (cell : Cell) (well : IsProblem p) (of : IsOf p cell) (in
   some_normal = a_normal p cell well of ind time_zero
 
   pub over_up : (j c : ℕ) → pos 0 <ℤ sum_of p cell v den j c → IsOverAt p cell j c
-  over_up j c r f w n = over_first w v den (point_at (support_at p.supports j) (pair_at cell j).0) (point_at (support_at p.supports j) c) h (first_of w n) r
+  over_up j c r f w n = over_first w v den (point_at (nth_support p.supports j) (pair_at cell j).0) (point_at (nth_support p.supports j) c) h (first_of w n) r
 
   pub over_not : (j c : ℕ) → IsFurtherAt p cell j c → sum_of p cell v den j c <ℤ pos 0 → ¬ (IsOverAt p cell j c)
   over_not j c f r o =
       let n = some_normal in
-      below_first n.0 v den (point_at (support_at p.supports j) (pair_at cell j).0) (point_at (support_at p.supports j) c) h (first_of n.0 n.1) r (o f n.0 n.1)
+      below_first n.0 v den (point_at (nth_support p.supports j) (pair_at cell j).0) (point_at (nth_support p.supports j) c) h (first_of n.0 n.1) r (o f n.0 n.1)
 
   module _ (ranks : HaveRanksFrom 1 p.supports) (j c : ℕ) (further : IsFurtherAt p cell j c) (tie : sum_of p cell v den j c ≡ pos 0) (numbers : Numbers) (dep : IsPositiveDependency p cell j c numbers) where
     abbrev point : Point
-    point = point_at (support_at p.supports j) c
+    point = point_at (nth_support p.supports j) c
 
     abbrev sum : List ℤ
     sum = sum_at time_zero numbers p cell point
 
     abbrev listed : List Ranked
-    listed = in_order 0 j c (ranked (support_at p.supports j) c numbers.last) (ranked_pairs numbers.pairs p.supports cell) cell
+    listed = in_order 0 j c (ranked (nth_support p.supports j) c numbers.last) (ranked_pairs numbers.pairs p.supports cell) cell
 
     count : length p.supports ≡ length cell
     count = pairs_long p.supports cell _ of
@@ -81,14 +82,14 @@ module _ (p : Problem) (cell : Cell) (well : IsProblem p) (of : IsOf p cell) (in
     first_sum : at sum 0 ≡ pos 0
     first_sum =
         let n = some_normal in
-        let g = level_first n.0 v den (point_at (support_at p.supports j) (pair_at cell j).0) point h (first_of n.0 n.1) tie in
+        let g = level_first n.0 v den (point_at (nth_support p.supports j) (pair_at cell j).0) point h (first_of n.0 n.1) tie in
         let s = sum_gap p cell j c numbers bound dep.1.0 dep.1.1 time_zero n.0 n.1 0 ∙ ap (λ z. numbers.last *ℤ z) g ∙ *ℤ-zero numbers.last in
         elim (zero_product n.0.over (at sum 0) s) [ inl i ↦ absurd (let q = n.0.positive in omega (arith, ints, i, q)) | inr i ↦ i ]
 
     later : (e : ℕ) → at sum (suc e) ≡ sum_in (suc e) listed
     later e =
         later_sum numbers p cell point e
-        ∙ sym (sum_is (suc e) 0 j c (ranked (support_at p.supports j) c numbers.last) numbers.pairs p.supports cell (omega arith) (let b = bound in omega (arith, b)) dep.1.0 count)
+        ∙ sym (sum_is (suc e) 0 j c (ranked (nth_support p.supports j) c numbers.last) numbers.pairs p.supports cell (omega arith) (let b = bound in omega (arith, b)) dep.1.0 count)
 
     by_numbers : IsPositive sum ↔ IsPositive (numbers_in listed)
     by_numbers = sign_in sum listed (rise_is 1 0 j j c numbers.last numbers.pairs p.supports cell (omega arith) ranks of further) first_sum later
@@ -96,7 +97,7 @@ module _ (p : Problem) (cell : Cell) (well : IsProblem p) (of : IsOf p cell) (in
     pub over_tie : IsOverAt p cell j c ↔ IsPositive (ordered cell j c numbers)
     over_tie =
         let r = by_numbers in
-        let e = numbers_are 0 j c (ranked (support_at p.supports j) c numbers.last) numbers.pairs p.supports cell dep.1.0 count in (
+        let e = numbers_are 0 j c (ranked (nth_support p.supports j) c numbers.last) numbers.pairs p.supports cell dep.1.0 count in (
           (λ o. let n = some_normal in subst IsPositive e (r.0 ((sides p cell j c numbers bound dep time_zero n.0 n.1).above.1 (o further n.0 n.1)))),
           (λ q f w n. (sides p cell j c numbers bound dep time_zero w n).above.0 (r.1 (subst IsPositive (sym e) q))),
         )

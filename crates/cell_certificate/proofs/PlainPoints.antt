@@ -2,17 +2,15 @@
 use Rattle.std.proofs.Common.{◌≡◌, ℕ, suc, ◌+◌, ◌-◌, ◌≤◌, List, [], ◌∷◌, length, map, arith, refl, sym, ap, ap₂, subst, ◌∙◌}
 use Rattle.std.proofs.lemmas.List.{length-map, take_all}
 use Rattle.std.specs.Prelude.{min}
-use Rattle.cayley.specs.Problems.{Version, version2, Point, Problem, point_at, unperturbed, ranked_supports, numbered, numbered_supports, ranks_in, first_points, file_points}
+use Rattle.cayley.specs.Problems.{Version, version2, Point, Problem, unperturbed, ranked_supports, numbered_supports, ranks_in, first_points, file_points}
 use Rattle.cayley.specs.Files.{FilePoint, File, resting, plain_problem}
-use Rattle.cayley.specs.Valid.{IsValidFile, IsValidProblem}
-use Rattle.cayley.proofs.OneCell.PlainProblems.{plain_unperturbed, plain_valid}
+use Rattle.cayley.specs.Valid.{IsValidFile}
+use Rattle.cayley.proofs.OneCell.PlainProblems.{plain_unperturbed}
 use Rattle.cayley.proofs.OneCell.Unperturbed.{unranked}
-use Rattle.cayley.proofs.Ranking.Unranked.{unranked_numbered, unranked_ranked, ranked_twice}
+use Rattle.cayley.proofs.Ranking.Unranked.{unranked_ranked, ranked_twice}
 use Rattle.cayley.proofs.Ranking.Numbering.{corners_before, rank_there}
+use Rattle.cayley.proofs.OneCell.FilePointRanks.{length-numbered}
 use Rattle.inner_normal.proofs.RankOrder.{HaveRanksFrom}
-
-pub valid_of : (file : File) → IsValidFile file → IsValidProblem (plain_problem file)
-valid_of file valid = plain_valid file valid
 
 -- ---- its own file points
 lengths_unranked : (ss : List (List Point)) → map length (map unranked ss) ≡ map length ss
@@ -44,9 +42,6 @@ pub resting_points : (file : File) → (unperturbed (plain_problem file)).suppor
 resting_points file = ap (λ (p : Problem). p.supports) (plain_unperturbed file)
 
 -- ---- its ranks
-length_numbered : (i f position r : ℕ) (xs : List Point) → length (numbered i f position r xs) ≡ length xs
-length_numbered i f position r xs = sym (length-map (numbered i f position r xs) _) ∙ ap length (unranked_numbered i f position r xs) ∙ length-map xs _
-
 no_corner : (i f q : ℕ) → q ≤ f → corners_before i f q ≡ 0
 no_corner i f q l = omega (arith, l)
 
@@ -59,7 +54,7 @@ ranks_from i b (s ∷ supports) l =
     let f = length s in
     let xs = map resting s in
     let n : length xs ≡ f = length-map s resting in
-    let m = length_numbered i f 1 b xs in (
+    let m = length-numbered i f 1 b xs in (
       (λ q p k.
           let h = rank_there i f b q xs l p (omega (arith, k, m)) (λ e. omega (arith, e, k, m, n)) (λ e. omega (arith, e, k, m, n)) in
           let z = no_corner i f q (omega (arith, k, m, n)) in

@@ -1,7 +1,6 @@
 -- what is found of one point: it isn't a further one, its sum isn't 0, or its circuit tells
-use Rattle.std.proofs.Common.{rules, ◌≡◌, ◌≢◌, ◌↔◌, ℕ, suc, ◌+◌, ◌-◌, ◌<◌, ◌≤◌, Bool, true, List, [], ◌∷◌, length, map, get_or, arith, refl, sym, ap, subst, ◌∙◌, ◌<ℤ◌}
+use Rattle.std.proofs.Common.{rules, ◌≡◌, ◌≢◌, ◌↔◌, ℕ, ◌+◌, ◌-◌, ◌<◌, ◌≤◌, Bool, true, List, [], length, map, get_or, arith, sym, ap, subst, ◌∙◌, ◌<ℤ◌}
 use Rattle.std.specs.Prelude.{IsTrue}
-use Rattle.std.proofs.lemmas.Int.{ints}
 use Rattle.std.proofs.Math.IntN.{ℤ, pos}
 use Rattle.wide_int.proofs.Order.{sign_cases}
 use Rattle.int_vectors.specs.Vectors.{IsPositive}
@@ -9,11 +8,12 @@ use Rattle.cayley.specs.declared.points.FilePoint.{FilePoint as StoredPoint}
 use Rattle.cayley.specs.Stored.{file_point}
 use Rattle.cayley.specs.Files.{File, plain_problem}
 use Rattle.cayley.specs.Valid.{IsValidFile}
-use Rattle.cayley.specs.Problems.{Point, Problem, IsProblem, version2}
+use Rattle.cayley.specs.Problems.{Problem, IsProblem, version2}
 use Rattle.cayley.specs.Cells.{Cell}
-use Rattle.cayley.specs.Dependencies.{support_at, pair_at, IsFurtherAt, Numbers, IsPositiveDependency}
+use Rattle.cayley.specs.Dependencies.{pair_at, IsFurtherAt, Numbers, IsPositiveDependency, nth_support}
 use Rattle.cayley.specs.Resting.{rise}
 use Rattle.cayley.proofs.Flipping.Places.{pairs_long, further_bound}
+use Rattle.cayley.proofs.OneCell.PlainProblems.{plain_valid}
 use Rattle.inner_normal.specs.Coefficients.{difference, FitsCoefficients}
 use Rattle.inner_normal.specs.Inverses.{Inverse}
 use Rattle.inner_normal.specs.Orders.{ordered}
@@ -25,7 +25,7 @@ use Rattle.cell_certificate.specs.Tests.{sum_of}
 use Rattle.cell_certificate.specs.Ties.{IsLevelLine, FitsTieAt, IsOverAt, FitTies, AreOver}
 use Rattle.cell_certificate.proofs.Levels.{level_from}
 use Rattle.cell_certificate.proofs.Over.{over_up, over_not, over_tie}
-use Rattle.cell_certificate.proofs.PlainPoints.{valid_of, plain_ranks}
+use Rattle.cell_certificate.proofs.PlainPoints.{plain_ranks}
 use Rattle.cell_certificate.proofs.Spots.{pair_place, support_place, each_pair_place, support_count, sum_seen, fit_seen}
 
 module _ (file : File) (valid : IsValidFile file) (p : Problem) (same : p ≡ plain_problem file) (x : ListedCell) (line : IsLevelLine p x) (support : ℕ) (least : 1 ≤ support) (most : support ≤ p.dimension) where
@@ -33,7 +33,7 @@ module _ (file : File) (valid : IsValidFile file) (p : Problem) (same : p ≡ pl
   j = support - 1
 
   well : IsProblem p
-  well = subst IsProblem (sym same) (valid_of file valid).shape.problem
+  well = subst IsProblem (sym same) (plain_valid file valid).shape.problem
 
   pub in_file : j < file.dimension
   in_file = let d = ap (λ (q : Problem). q.dimension) same in omega (arith, d, least, most)
@@ -55,13 +55,13 @@ module _ (file : File) (valid : IsValidFile file) (p : Problem) (same : p ≡ pl
     pair_is : pair_at x.cell j ≡ pair
     pair_is = pair_place x.cell j in_cell ∙ ap (λ (y : Cell). get_or y j (0, 0)) (sym own)
 
-    count : length (support_at p.supports j) ≡ length points
+    count : length (nth_support p.supports j) ≡ length points
     count = support_count file valid p same j in_file points e
 
     -- the first point of the pair is there
     pub pair_first : (pair.0 ≡ (pair.0 - 1) + 1) × (pair.0 - 1 < length points)
     pair_first =
-        let r = subst (λ (q : ℕ × ℕ). (1 ≤ q.0) × (q.0 < q.1) × (q.1 ≤ length (support_at p.supports j))) pair_is
+        let r = subst (λ (q : ℕ × ℕ). (1 ≤ q.0) × (q.0 < q.1) × (q.1 ≤ length (nth_support p.supports j))) pair_is
         (each_pair_place (λ s a b. (1 ≤ a) × (a < b) × (b ≤ length s)) p.supports x.cell j line.0.0 in_cell) in
         let a = r.0 in
         let b = r.1 in

@@ -1,5 +1,5 @@
 -- the supports of a file's points
-use Rattle.std.proofs.Common.{◌≡◌, ℕ, zero, suc, ◌<◌, ◌≤◌, List, [], ◌∷◌, length, map, get_or, arith, refl, sym, ap, ap₂, subst, ◌∙◌}
+use Rattle.std.proofs.Common.{◌≡◌, ℕ, zero, suc, ◌<◌, ◌≤◌, List, [], ◌∷◌, length, map, get_or, arith, refl, sym, ap, subst, ◌∙◌}
 use Rattle.std.proofs.lemmas.List.{length-map}
 use Rattle.int_vectors.specs.Vectors.{Each}
 use Rattle.cayley.specs.declared.points.FilePoint.{FilePoint as StoredPoint}
@@ -9,9 +9,10 @@ use Rattle.cayley.specs.Files.{FilePoint, File, resting, plain_problem}
 use Rattle.cayley.specs.Problems.{unperturbed}
 use Rattle.cayley.specs.Cells.{Cell, IsOf}
 use Rattle.cayley.proofs.Lists.Each.{map_map}
+use Rattle.cayley.proofs.Flipping.Places.{pairs_long}
 use Rattle.cell_certificate.specs.Sides.{seen, IsNear, IsPairOf}
 use Rattle.cell_certificate.proofs.PlainPoints.{resting_points}
-use Rattle.cell_certificate.proofs.Turns.{pair_at, same_count}
+use Rattle.cell_certificate.proofs.Turns.{pair_at}
 
 pub supports_count : (file : File) → IsValidFile file → length (unperturbed (plain_problem file)).supports ≡ file.dimension
 supports_count file valid = ap length (resting_points file) ∙ length-map file.supports (map resting) ∙ valid.shape.supports
@@ -53,11 +54,11 @@ pub pair_is : (file : File) (cell pairs : Cell) (points : List StoredPoint) (k :
     → map file_point points ≡ get_or file.supports k [] → pairs ≡ cell → IsPairOf (length points) (get_or pairs k (0, 0))
 pair_is file cell pairs points k valid of h e same =
     let supports = (unperturbed (plain_problem file)).supports in
-    let l : k < length cell = omega (arith, h, supports_count file valid, same_count supports cell (λ s a b. (1 ≤ a) × (a < b) × (b ≤ length s)) of) in
+    let l : k < length cell = omega (arith, h, supports_count file valid, pairs_long supports cell (λ s a b. (1 ≤ a) × (a < b) × (b ≤ length s)) of) in
     let r = pair_at supports cell (λ s a b. (1 ≤ a) × (a < b) × (b ≤ length s)) k of l in
     let m = ap length (support_is file points k valid h e) ∙ length-map points seen in
     subst (λ ps. IsPairOf (length points) (get_or ps k (0, 0))) (sym same) (r.1.0, r.1.1, subst (λ n. (get_or cell k (0, 0)).1 ≤ n) m r.1.2)
 
 pub cell_count : (file : File) (cell : Cell) → IsValidFile file → IsOf (unperturbed (plain_problem file)) cell → length cell ≡ file.dimension
 cell_count file cell valid of =
-    sym (same_count (unperturbed (plain_problem file)).supports cell (λ s a b. (1 ≤ a) × (a < b) × (b ≤ length s)) of) ∙ supports_count file valid
+    sym (pairs_long (unperturbed (plain_problem file)).supports cell (λ s a b. (1 ≤ a) × (a < b) × (b ≤ length s)) of) ∙ supports_count file valid

@@ -1,15 +1,9 @@
 -- one more turn of a loop
-use Rattle.std.proofs.Common.{◌≡◌, ◌↔◌, ℕ, zero, suc, ◌+◌, ◌<◌, ◌≤◌, Bool, List, [], ◌∷◌, length, drop, get_or, drop-cons, add-one, drop_of_length-le, arith, refl, sym, ap, subst}
+use Rattle.std.proofs.Common.{◌≡◌, ◌↔◌, ℕ, zero, suc, ◌+◌, ◌<◌, ◌≤◌, Bool, List, [], ◌∷◌, length, drop, get_or, drop-cons, add-one, drop_of_length-le, arith, refl, sym, subst}
 use Rattle.std.specs.Prelude.{IsTrue}
 use Rattle.cayley.specs.Problems.{Point}
 use Rattle.cayley.specs.Cells.{Cell, EachPair}
-use native.Mathlib.Decide.{dec_le}
-
-pub next_all : (P : ℕ → Type 0) (i : ℕ) → ((c : ℕ) → c ≤ i → P c) → P (i + 1) → (c : ℕ) → c ≤ i + 1 → P c
-next_all P i f p c h = elim (dec_le c i) [
-  | yes l ↦ f c l
-  | no n ↦ let e : i + 1 ≡ c = omega (arith, h, n) in subst P e p
-]
+use Rattle.wide_int.proofs.Turns.{next_all, next_below}
 
 pub next_test : (P : ℕ → Type 0) (i : ℕ) (old one new : Bool) → IsTrue old ↔ ((c : ℕ) → c ≤ i → P c) → IsTrue one ↔ P (i + 1) → IsTrue new ↔ (IsTrue one × IsTrue old)
     → IsTrue new ↔ ((c : ℕ) → c ≤ i + 1 → P c)
@@ -30,12 +24,6 @@ pair_at [] (pair ∷ cell) P k e h = absurd e
 pair_at (s ∷ supports) [] P k e h = absurd e
 pair_at (s ∷ supports) (pair ∷ cell) P zero e h = (omega arith, e.0)
 pair_at (s ∷ supports) (pair ∷ cell) P (suc k) e h = let r = pair_at supports cell P k e.1 (omega arith) in (omega (arith, r.0), r.1)
-
-pub same_count : (supports : List (List Point)) (cell : Cell) (P : List Point → ℕ → ℕ → Type 0) → EachPair supports cell P → length supports ≡ length cell
-same_count [] [] P e = refl
-same_count [] (pair ∷ cell) P e = absurd e
-same_count (s ∷ supports) [] P e = absurd e
-same_count (s ∷ supports) (pair ∷ cell) P e = ap suc (same_count supports cell P e.1)
 
 -- one support at a time: what is left, and what is known of those before
 module _ (supports : List (List Point)) (cell : Cell) (P : List Point → ℕ → ℕ → Type 0) (k : ℕ) (hs : k < length supports) (hc : k < length cell) where
@@ -76,12 +64,6 @@ known_all supports cell P k known h i r = (
 )
 
 -- the same for places below a bound
-pub next_below : (P : ℕ → Type 0) (i : ℕ) → ((j : ℕ) → j < i → P j) → P i → (j : ℕ) → j < i + 1 → P j
-next_below P i f p j h = elim (dec_le i j) [
-  | yes l ↦ let e : i ≡ j = omega (arith, h, l) in subst P e p
-  | no n ↦ f j (omega (arith, n))
-]
-
 pub next_test_below : (P : ℕ → Type 0) (i : ℕ) (old one new : Bool) → IsTrue old ↔ ((j : ℕ) → j < i → P j) → IsTrue one ↔ P i → IsTrue new ↔ (IsTrue one × IsTrue old)
     → IsTrue new ↔ ((j : ℕ) → j < i + 1 → P j)
 next_test_below P i old one new o p n = (

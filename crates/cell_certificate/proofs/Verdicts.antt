@@ -8,7 +8,7 @@ use Rattle.cayley.specs.Cells.{Cell}
 use Rattle.listing_text.specs.declared.listing.Listing.{Listing}
 use Rattle.listing_text.specs.declared.listing.ListedCell.{ListedCell}
 use Rattle.cell_certificate.specs.declared.judgement.Judgement.{Judgement}
-use Rattle.cell_certificate.specs.declared.judgement.Judgement.TheVariants.{Passes, Unfit, Order, Dependent, NotLevel, NotLess, NotLowest}
+use Rattle.cell_certificate.specs.declared.judgement.Judgement.TheVariants.{Passes, Unfit, Order, Dependent, NotLevel, NotLeast, NotLowest}
 use Rattle.cell_certificate.specs.Judgements.{IsJudged, FirstRefused}
 use Rattle.cell_certificate.specs.Answers.{Answer, WrongAt, TooLargeAt, IsWrong, IsTooLarge, IsAnswer, IsStop}
 use Rattle.cell_certificate.specs.Written.{IsListed}
@@ -38,7 +38,7 @@ module _ (listing : Listing) (before : Option Cell) (x : ListedCell) (rest : Lis
   stopped Order answer s d = subst (IsAnswer listing) (sym (some_is answer _ s)) (wrong x.line 1 (inl (refl, (Order, refl, d))))
   stopped Dependent answer s d = subst (IsAnswer listing) (sym (some_is answer _ s)) (wrong x.line 2 (inl (refl, (Dependent, refl, d))))
   stopped NotLevel answer s d = subst (IsAnswer listing) (sym (some_is answer _ s)) (wrong x.line 3 (inl (refl, (NotLevel, refl, d))))
-  stopped NotLess answer s d = subst (IsAnswer listing) (sym (some_is answer _ s)) (wrong x.line 4 (inl (refl, (NotLess, refl, d))))
+  stopped NotLeast answer s d = subst (IsAnswer listing) (sym (some_is answer _ s)) (wrong x.line 4 (inl (refl, (NotLeast, refl, d))))
   stopped NotLowest answer s d = subst (IsAnswer listing) (sym (some_is answer _ s)) (wrong x.line 5 (inl (refl, (NotLowest, refl, d))))
 
 -- no answer: the line passes
@@ -48,5 +48,5 @@ went_on p before x number Unfit s d = absurd (subst tells (sym s) tt)
 went_on p before x number Order s d = absurd (subst tells (sym s) tt)
 went_on p before x number Dependent s d = absurd (subst tells (sym s) tt)
 went_on p before x number NotLevel s d = absurd (subst tells (sym s) tt)
-went_on p before x number NotLess s d = absurd (subst tells (sym s) tt)
+went_on p before x number NotLeast s d = absurd (subst tells (sym s) tt)
 went_on p before x number NotLowest s d = absurd (subst tells (sym s) tt)

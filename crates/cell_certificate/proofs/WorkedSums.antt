@@ -1,13 +1,13 @@
 -- where the working of a mixed cell fits, so do the sums of its further points under its normal in lowest terms
 use Rattle.std.proofs.Common.{◌≡◌, ℕ, zero, suc, ◌+◌, ◌*◌, ◌<◌, ◌/◌, List, [], ◌∷◌, ◌++◌, length, arith, refl, sym, ap, subst, subst₂, ◌∙◌, ◌<ℤ◌, unsigned_abs, Result, Ok, Err, lit<}
 use Rattle.std.proofs.lemmas.Int.{ints}
-use Rattle.std.proofs.Math.IntN.{ℤ, pos, negsuc, neg_ℤ, pos-*ℤ-pos}
+use Rattle.std.proofs.Math.IntN.{ℤ, pos, negsuc, pos-*ℤ-pos}
 use Rattle.wide_int.specs.Whole.{FitsWhole}
 use Rattle.wide_int.specs.Divisors.{lcm_of}
 use Rattle.wide_int.proofs.CommonDivisors.{lcm_positive, quotient_times}
-use Rattle.wide_int.proofs.Signed.{abs_positive}
-use Rattle.int_vectors.specs.Vectors.{Each, scale, at, IsOrthogonal}
-use Rattle.reduced_rows.specs.Denominators.{lcm_from, FitsLcm, share, shares, FitsShares, zeros}
+use Rattle.wide_int.proofs.Signed.{abs_positive, neg_fits}
+use Rattle.int_vectors.specs.Vectors.{Each, scale, at, IsOrthogonal, zeros}
+use Rattle.reduced_rows.specs.Denominators.{lcm_from, FitsLcm, share, shares, FitsShares}
 use Rattle.reduced_rows.specs.Spans.{IsReduced, IsReducedOf}
 use Rattle.reduced_rows.specs.Steps.{elimination}
 use Rattle.reduced_rows.proofs.Orthogonal.{length-shares}
@@ -61,13 +61,10 @@ unfolding lcm_from FitsLcm
 lcm_fits j l [] f h = f
 lcm_fits j l (row ∷ rows) f h = lcm_fits (suc j) (lcm_of l (unsigned_abs (at row j))) rows h.0 h.1
 
-turned_fits : (z : ℤ) → FitsWhole z → FitsWhole (neg_ℤ z)
-turned_fits z f = omega (arith, ints, f)
-
 shares_fit : (k j l : ℕ) (rows : List (List ℤ)) → FitsShares k j l rows → Each (shares k j l rows) FitsWhole
 unfolding shares FitsShares
 shares_fit k j l [] h = tt
-shares_fit k j l (row ∷ rows) h = (turned_fits (share k j l row) h.0, shares_fit k (suc j) l rows h.1)
+shares_fit k j l (row ∷ rows) h = (neg_fits (share k j l row) h.0, shares_fit k (suc j) l rows h.1)
 
 entries_less : (j : ℕ) (v : List ℤ) → 0 < j → Each (scale (pos j) v) FitsWhole → Each v FitsWhole
 entries_less j [] p h = tt

@@ -1,5 +1,5 @@
 -- a listing that was written is refused for the sum of a pair's own second point alone
-use Rattle.std.proofs.Common.{◌≡◌, ℕ, List, [], ◌∷◌, map, sym, subst, Option, None, Some, Ok, Err, inl, inr}
+use Rattle.std.proofs.Common.{◌≡◌, ℕ, List, [], ◌∷◌, map, subst, Option, None, Some, Ok, Err, inl, inr}
 use Rattle.int_vectors.specs.Vectors.{Each}
 use Rattle.cayley.specs.Times.{time_zero}
 use Rattle.cayley.specs.Problems.{Problem}
@@ -9,10 +9,11 @@ use Rattle.cayley.specs.Cells.{Cell, IsSorted, IsIndependent}
 use Rattle.cayley.specs.Normals.{IsNormal}
 use Rattle.cayley.specs.Mixed.{IsAlive, IsMixedCell, IsLowestNormal}
 use Rattle.cayley.proofs.OneCell.OneNormal.{all_above_any}
+use Rattle.cayley.proofs.OneCell.PlainProblems.{plain_valid}
 use Rattle.listing_text.specs.declared.listing.Listing.{Listing}
 use Rattle.listing_text.specs.declared.listing.ListedCell.{ListedCell}
 use Rattle.cell_certificate.specs.declared.judgement.Judgement.{Judgement}
-use Rattle.cell_certificate.specs.declared.judgement.Judgement.TheVariants.{Passes, Unfit, Order, Dependent, NotLevel, NotLess, NotLowest}
+use Rattle.cell_certificate.specs.declared.judgement.Judgement.TheVariants.{Passes, Unfit, Order, Dependent, NotLevel, NotLeast, NotLowest}
 use Rattle.cell_certificate.specs.declared.verdict.Verdict.TheVariants.{Yes, No}
 use Rattle.cell_certificate.specs.declared.verdict.CheckFault.TheVariants.{Overflow, OutOfMemory}
 use Rattle.cell_certificate.specs.Judgements.{IsJudged, FirstRefused, FitsRows, HasLevel, HasTies, HasLeast, HasLowest}
@@ -20,9 +21,9 @@ use Rattle.cell_certificate.specs.Tests.{Follows}
 use Rattle.cell_certificate.specs.Sums.{FitsOwn, FitsFurther}
 use Rattle.cell_certificate.specs.Answers.{Answer, IsAnswer, WrongAt, TooLargeAt, reason_of}
 use Rattle.cell_certificate.specs.Written.{IsListed, AreListed, IsWritten, FitsWritten, SparesWritten}
-use Rattle.cell_certificate.proofs.OneAnswer.{never_unfit}
+use Rattle.cell_certificate.proofs.OneAnswer.{never_unfit, none_is}
 use Rattle.cell_certificate.proofs.LowestLevel.{lowest_level}
-use Rattle.cell_certificate.proofs.PlainPoints.{valid_of, own_points}
+use Rattle.cell_certificate.proofs.PlainPoints.{own_points}
 use Rattle.cell_certificate.proofs.WorkedSums.{further_fits}
 
 -- what is right of a line
@@ -45,7 +46,7 @@ module _ (file : File) (valid : IsValidFile file) where
       → FitsWritten (plain_problem file) x.cell → Right (plain_problem file) x
   line_right x l m n w =
       let p = plain_problem file in
-      let well = (valid_of file valid).shape.problem in
+      let well = (plain_valid file valid).shape.problem in
       let alive = subst (λ q. IsAlive q x.cell time_zero) (own_points file valid) m in
       let level = lowest_level p x.cell l.0 x.normal.v x.normal.den n.2.0 l.1 n.0 (subst (λ q. IsNormal q x.cell time_zero n.2.0) (own_points file valid) n.2.1) n.2.2 in
       record {
@@ -68,13 +69,6 @@ unfolding Starts
 next_starts x [] s = (tt, tt)
 next_starts x (y ∷ lines) s = s
 
-none_is : {P : Type 0} (n : ℕ) → None ≡ Some n → P
-none_is n e = absurd (subst tells (sym e) tt)
-  where
-    tells : Option ℕ → Type 0
-    tells None = ⊥
-    tells (Some m) = Unit {0}
-
 -- no reason applies
 no_reason : (p : Problem) (before : Option Cell) (x : ListedCell) (reason : ℕ) (j : Judgement) → Follows before x.cell → Right p x → reason_of j ≡ Some reason → IsJudged p before x j → ⊥
 no_reason p before x reason Passes f r e d = none_is reason e
@@ -82,7 +76,7 @@ no_reason p before x reason Unfit f r e d = none_is reason e
 no_reason p before x reason Order f r e d = d f
 no_reason p before x reason Dependent f r e d = d.2 r.independent
 no_reason p before x reason NotLevel f r e d = d.2 r.level
-no_reason p before x reason NotLess f r e d = d.4 r.least
+no_reason p before x reason NotLeast f r e d = d.4 r.least
 no_reason p before x reason NotLowest f r e d = d.5 r.lowest
 
 no_wrong : (p : Problem) (before : Option Cell) (lines : List ListedCell) (number reason : ℕ) → Starts before lines → IsSorted (map (λ (x : ListedCell). x.cell) lines) → Each lines (Right p)

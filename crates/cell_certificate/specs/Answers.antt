@@ -6,7 +6,7 @@ use Rattle.cayley.specs.Cells.{Cell}
 use Rattle.listing_text.specs.declared.listing.Listing.{Listing}
 use Rattle.listing_text.specs.declared.listing.ListedCell.{ListedCell}
 use Rattle.cell_certificate.specs.declared.judgement.Judgement.{Judgement}
-use Rattle.cell_certificate.specs.declared.judgement.Judgement.TheVariants.{Passes, Unfit, Order, Dependent, NotLevel, NotLess, NotLowest}
+use Rattle.cell_certificate.specs.declared.judgement.Judgement.TheVariants.{Passes, Unfit, Order, Dependent, NotLevel, NotLeast, NotLowest}
 use Rattle.cell_certificate.specs.declared.verdict.Verdict.{Verdict}
 use Rattle.cell_certificate.specs.declared.verdict.Verdict.TheVariants.{Yes, No}
 use Rattle.cell_certificate.specs.declared.verdict.CheckFault.{CheckFault}
@@ -28,7 +28,7 @@ reason_of Unfit = None
 reason_of Order = Some 1
 reason_of Dependent = Some 2
 reason_of NotLevel = Some 3
-reason_of NotLess = Some 4
+reason_of NotLeast = Some 4
 reason_of NotLowest = Some 5
 
 -- every line of the listing passes
@@ -65,5 +65,5 @@ IsStop number Unfit stop = stop ≡ Some (Err (Overflow number))
 IsStop number Order stop = stop ≡ Some (Ok (No number 1))
 IsStop number Dependent stop = stop ≡ Some (Ok (No number 2))
 IsStop number NotLevel stop = stop ≡ Some (Ok (No number 3))
-IsStop number NotLess stop = stop ≡ Some (Ok (No number 4))
+IsStop number NotLeast stop = stop ≡ Some (Ok (No number 4))
 IsStop number NotLowest stop = stop ≡ Some (Ok (No number 5))

@@ -7,7 +7,7 @@ use Rattle.cayley.specs.Cells.{Cell, IsIndependent}
 use Rattle.cayley.specs.Mixed.{IsCoprime}
 use Rattle.listing_text.specs.declared.listing.ListedCell.{ListedCell}
 use Rattle.cell_certificate.specs.declared.judgement.Judgement.{Judgement}
-use Rattle.cell_certificate.specs.declared.judgement.Judgement.TheVariants.{Passes, Unfit, Order, Dependent, NotLevel, NotLess, NotLowest}
+use Rattle.cell_certificate.specs.declared.judgement.Judgement.TheVariants.{Passes, Unfit, Order, Dependent, NotLevel, NotLeast, NotLowest}
 use Rattle.cell_certificate.specs.Sums.{FitsSums}
 use Rattle.cell_certificate.specs.Tests.{Follows, IsLevelAt, IsLeast, FitsTies}
 
@@ -15,7 +15,7 @@ use Rattle.cell_certificate.specs.Tests.{Follows, IsLevelAt, IsLeast, FitsTies}
 abbrev pub FitsRows : Problem → ListedCell → Type 0
 FitsRows p x = FitsElimination p.dimension (edge_rows p x.cell)
 
--- the line's numbers can be formed: its elimination fits, and where its cell is independent its sums
+-- all sums of the line fit
 abbrev pub HasSums : Problem → ListedCell → Type 0
 HasSums p x = FitsSums p x.cell x.normal.v x.normal.den
 
@@ -42,7 +42,7 @@ IsNormalJudged p x Order = ⊥
 IsNormalJudged p x Dependent = ⊥
 IsNormalJudged p x Unfit = ¬ (HasSums p x) ⊎ (HasSums p x × HasLevel p x × ¬ (HasTies p x))
 IsNormalJudged p x NotLevel = HasSums p x × ¬ (HasLevel p x)
-IsNormalJudged p x NotLess = HasSums p x × HasLevel p x × HasTies p x × ¬ (HasLeast p x)
+IsNormalJudged p x NotLeast = HasSums p x × HasLevel p x × HasTies p x × ¬ (HasLeast p x)
 IsNormalJudged p x NotLowest = HasSums p x × HasLevel p x × HasTies p x × HasLeast p x × ¬ (HasLowest x)
 IsNormalJudged p x Passes = HasSums p x × HasLevel p x × HasTies p x × HasLeast p x × HasLowest x
 
@@ -52,7 +52,7 @@ IsJudged p before x Order = ¬ (Follows before x.cell)
 IsJudged p before x Dependent = Follows before x.cell × FitsRows p x × ¬ (IsIndependent p x.cell)
 IsJudged p before x Unfit = (Follows before x.cell × ¬ (FitsRows p x)) ⊎ (HasGoodCell p before x × IsNormalJudged p x Unfit)
 IsJudged p before x NotLevel = HasGoodCell p before x × HasSums p x × ¬ (HasLevel p x)
-IsJudged p before x NotLess = HasGoodCell p before x × HasSums p x × HasLevel p x × HasTies p x × ¬ (HasLeast p x)
+IsJudged p before x NotLeast = HasGoodCell p before x × HasSums p x × HasLevel p x × HasTies p x × ¬ (HasLeast p x)
 IsJudged p before x NotLowest = HasGoodCell p before x × HasSums p x × HasLevel p x × HasTies p x × HasLeast p x × ¬ (HasLowest x)
 IsJudged p before x Passes = HasGoodCell p before x × HasSums p x × HasLevel p x × HasTies p x × HasLeast p x × HasLowest x
 

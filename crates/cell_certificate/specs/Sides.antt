@@ -27,13 +27,13 @@ IsPairOf m pair = (1 ≤ pair.0) × (pair.0 < pair.1) × (pair.1 ≤ m)
 abbrev pub FitsSupport : ℤ → List ℤ → List Point → ℕ → ℕ → Type 0
 FitsSupport den v s a b = FitsRise den v (point_at s a) (point_at s b) × ((c : ℕ) → FitsAt den v s a b c)
 
--- both points of the pair are level, each further point rises, and none is tied
+-- the flags tell whether both points of the pair are level, whether each further point rises, and whether none is tied
 abbrev pub Shows : ℤ → List ℤ → List Point → ℕ → ℕ → Sides → Type 0
 Shows den v s a b sides = (IsTrue sides.level ↔ (rise den v (point_at s a) (point_at s b) ≡ pos 0))
     × (IsTrue sides.above ↔ ((c : ℕ) → RisesAt den v s a b c))
     × (IsTrue sides.untied ↔ ((c : ℕ) → UntiedAt den v s a b c))
 
--- of a line: v / den makes both points of each pair equal, each further point's sum is positive, and none is 0
+-- of a line: the flags tell whether v / den makes both points of each pair equal, whether each further point's sum is positive, and whether none is 0
 abbrev pub ShowsAll : Problem → Cell → List ℤ → ℤ → Sides → Type 0
 ShowsAll p cell v den sides = (IsTrue sides.level ↔ IsLevelAt p cell v den)
     × (IsTrue sides.above ↔ EachPair p.supports cell (λ s a b. (c : ℕ) → RisesAt den v s a b c))

@@ -10,10 +10,11 @@ use Rattle.cayley.specs.Resting.{rise}
 abbrev pub FitsRise : ℤ → List ℤ → Point → Point → Type 0
 FitsRise den v a x = FitsSum (den *ℤ (x.base -ℤ a.base)) (sub x.coordinates a.coordinates) v
 
--- of one support: the sum of a further point c fits, and is positive
+-- of one support: the sum of a further point c fits
 abbrev pub FitsAt : ℤ → List ℤ → List Point → ℕ → ℕ → ℕ → Type 0
 FitsAt den v s a b c = IsFurther s a b c → FitsRise den v (point_at s a) (point_at s c)
 
+-- a further point's sum is positive
 abbrev pub RisesAt : ℤ → List ℤ → List Point → ℕ → ℕ → ℕ → Type 0
 RisesAt den v s a b c = IsFurther s a b c → pos 0 <ℤ rise den v (point_at s a) (point_at s c)
 

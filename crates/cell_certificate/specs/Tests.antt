@@ -1,10 +1,10 @@
 -- The tests of a line: its cell after that of the line before, and its normal v over den.
-use Rattle.std.specs.Prelude.{◌≡◌, ℕ, List, [], ◌∷◌, map, ℤ, pos, ◌<ℤ◌, Option, None, Some}
+use Rattle.std.specs.Prelude.{◌≡◌, ℕ, List, ℤ, pos, ◌<ℤ◌, Option, None, Some}
 use Rattle.reduced_rows.specs.CellRefusals.{IsEliminated}
 use Rattle.cayley.specs.Times.{time_zero}
 use Rattle.cayley.specs.Problems.{version2, Problem, point_at, unperturbed}
 use Rattle.cayley.specs.Cells.{Cell, IsLess}
-use Rattle.cayley.specs.Dependencies.{support_at, pair_at, IsFurtherAt}
+use Rattle.cayley.specs.Dependencies.{pair_at, IsFurtherAt, nth_support}
 use Rattle.cayley.specs.Normals.{Normal, IsNormal, AllAbove}
 use Rattle.cayley.specs.Resting.{normal_over, rise}
 use Rattle.cayley.specs.Rows.{edge_rows}
@@ -25,7 +25,7 @@ IsLeast p cell = (w : Normal) → IsNormal p cell time_zero w → AllAbove p cel
 
 -- the sum of point c of support j, which counts from 0
 abbrev pub sum_of : Problem → Cell → List ℤ → ℤ → ℕ → ℕ → ℤ
-sum_of p cell v den j c = let s = support_at p.supports j in rise den v (point_at s (pair_at cell j).0) (point_at s c)
+sum_of p cell v den j c = let s = nth_support p.supports j in rise den v (point_at s (pair_at cell j).0) (point_at s c)
 
 -- in version 2 the circuit of each further point whose sum is 0 fits
 abbrev pub FitsTies : Problem → Cell → List ℤ → ℤ → Type 0

@@ -3,7 +3,7 @@ use Rattle.std.specs.Prelude.{◌≡◌, ℕ, zero, suc, List, [], ◌∷◌, �
 use Rattle.cayley.specs.Times.{time_zero}
 use Rattle.cayley.specs.Problems.{Problem}
 use Rattle.cayley.specs.Cells.{Cell, IsIndependent}
-use Rattle.cayley.specs.Dependencies.{support_at, pair_at, IsFurtherAt}
+use Rattle.cayley.specs.Dependencies.{pair_at, IsFurtherAt, nth_support}
 use Rattle.cayley.specs.Normals.{Normal, IsNormal, IsAbove}
 use Rattle.inner_normal.specs.Coefficients.{difference, FitsCoefficients}
 use Rattle.inner_normal.specs.Inverses.{Inverse}
@@ -29,7 +29,7 @@ FitsTieAt p cell v den inverse j c = IsFurtherAt p cell j c → sum_of p cell v 
 
 -- where it is a further point it is above under every normal
 abbrev pub IsOverAt : Problem → Cell → ℕ → ℕ → Type 0
-IsOverAt p cell j c = IsFurtherAt p cell j c → (w : Normal) → IsNormal p cell time_zero w → IsAbove time_zero w (support_at p.supports j) (pair_at cell j).0 c
+IsOverAt p cell j c = IsFurtherAt p cell j c → (w : Normal) → IsNormal p cell time_zero w → IsAbove time_zero w (nth_support p.supports j) (pair_at cell j).0 c
 
 -- of all points
 abbrev pub FitTies : Problem → Cell → List ℤ → ℤ → Inverse → Type 0

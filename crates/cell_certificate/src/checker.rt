@@ -21,7 +21,7 @@ fn stop(line: u64, judgement: Judgement) -> Option<Result<Verdict, CheckFault>>
         Judgement::Order => 1,
         Judgement::Dependent => 2,
         Judgement::NotLevel => 3,
-        Judgement::NotLess => 4,
+        Judgement::NotLeast => 4,
         Judgement::NotLowest => 5,
     };
     Some(Ok(Verdict::No { line, reason }))
@@ -61,7 +61,8 @@ fn answer(alloc: Global, listing: &Listing) -> Result<Verdict, CheckFault>
 /// 4. Overflow: a number of one of its sums doesn't fit.
 /// 5. Reason 3: the sum of some pair's second point isn't 0.
 /// 6. Overflow, where heights have infinitesimals: the sum of some further point is 0, and a number
-///    of the cell's denominator or of that point's circuit doesn't fit.
+///    of the cell's scaled inverse (its denominator and its columns) or of that point's circuit
+///    doesn't fit.
 /// 7. Reason 4: some further point isn't above. Its sum is negative, or is 0, but for heights with
 ///    infinitesimals where the first number of its circuit that isn't 0, in order of rank, is positive.
 /// 8. Reason 5: the normal's numbers and the denominator have a common divisor other than 1.

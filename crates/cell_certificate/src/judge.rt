@@ -108,7 +108,7 @@ fn judge_normal(
         Err(FromFault::OutOfMemory) => return Err(OutOfMemory),
     };
     if !least {
-        return Ok(Judgement::NotLess);
+        return Ok(Judgement::NotLeast);
     }
     if is_lowest(&listed.normal) {
         Ok(Judgement::Passes)

@@ -7,6 +7,6 @@ pub(crate) enum Judgement {
     Order,
     Dependent,
     NotLevel,
-    NotLess,
+    NotLeast,
     NotLowest,
 }

@@ -1,2 +1,2 @@
-pub mod Meaning
-pub mod Answered
+mod Meaning
+mod Answered

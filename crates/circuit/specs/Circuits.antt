@@ -1,7 +1,5 @@
 -- Circuits: a cell's dependency with one further point. Places j count from 0, positions c from 1.
-use Rattle.std.specs.Prelude.{◌≡◌, ℕ, zero, suc, ◌+◌, ◌*◌, ◌≤◌, List, [], ◌∷◌, length, ℤ, pos, negsuc, ◌≤ℤ◌}
-use Rattle.cayley.specs.declared.found.Sign.{Sign}
-use Rattle.cayley.specs.declared.found.Sign.TheVariants.{Minus, Zero, Plus}
+use Rattle.std.specs.Prelude.{◌≡◌, ℕ, suc, ◌+◌, ◌*◌, ◌≤◌, length, ℤ, pos, ◌≤ℤ◌}
 use Rattle.cayley.specs.Times.{Time}
 use Rattle.cayley.specs.Problems.{Problem}
 use Rattle.cayley.specs.Cells.{Cell}
@@ -27,9 +25,3 @@ pub record IsCircuit (p : Problem) (cell : Cell) (j c : ℕ) (circuit : Circuit)
   pub multiples : (others : Numbers) → IsDependencyOf p cell j c others → IsMultiple others (numbers_of circuit.coefficients)
   -- its sum of heights tells the point's side at every time
   pub sides : (t : Time) (v : Normal) → IsNormal p cell t v → Sides p cell j c (numbers_of circuit.coefficients) t v
-
--- the sign of a number
-abbrev pub sign_of : ℤ → Sign
-sign_of (pos zero) = Zero
-sign_of (pos (suc n)) = Plus
-sign_of (negsuc n) = Minus

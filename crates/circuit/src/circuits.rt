@@ -1,6 +1,6 @@
 ghost use Rattle.std.specs.Prelude.{◌≡◌, ◌∷◌, [], ◌-◌, ℕ};
 ghost use Rattle.cayley.specs.Dependencies.{number_at};
-ghost use Rattle.circuit.specs.Circuits as numbers;
+ghost use Rattle.cayley.specs.Signs as signs;
 ghost use Rattle.circuit.specs.Circuits.{HasForm};
 ghost use Rattle.inner_normal.specs.Coefficients.{pairs_of};
 
@@ -21,7 +21,7 @@ pub struct Circuit {
 }
 
 fn sign_of(x: i128) -> Sign
-    ensures { result ≡ numbers.sign_of x }
+    ensures { result ≡ signs.sign_of x }
 {
     if x < 0 {
         Sign::Minus
@@ -38,7 +38,7 @@ impl Circuit {
     pub fn signs(&self) -> [Sign; 3]
         requires { (n : ℕ) × HasForm n self.now }
         ensures { let pair = number_at (pairs_of self.now.coefficients) (self.now.support - 1) in
-            result ≡ numbers.sign_of pair.0 ∷ numbers.sign_of pair.1 ∷ Sign.Plus ∷ [] }
+            result ≡ signs.sign_of pair.0 ∷ signs.sign_of pair.1 ∷ Sign.Plus ∷ [] }
     {
         let place = 2 * (self.support as usize - 1);
         let first = sign_of(self.coefficients.get(place));

@@ -7,7 +7,7 @@ use Rattle.int_vectors.specs.Vectors.{Each, IsZero, IsPositive}
 use Rattle.cayley.specs.Times.{Time}
 use Rattle.cayley.specs.Problems.{Version, version1, Point, Problem, point_at, with_rank, unperturbed, ranked_supports}
 use Rattle.cayley.specs.Cells.{Cell}
-use Rattle.cayley.specs.Dependencies.{support_at, pair_at, IsFurtherAt, minus}
+use Rattle.cayley.specs.Dependencies.{pair_at, IsFurtherAt, minus, nth_support}
 use Rattle.cayley.specs.Mixed.{IsAlive}
 use Rattle.cayley.specs.Normals.{Normal, IsNormal, IsAbove, IsLevel, IsBelow}
 use Rattle.cayley.specs.Valid.{IsValidProblem}
@@ -45,28 +45,28 @@ module _ (p : Problem) (cell : Cell) (m : MovingNormal) (n : IsMovingNormal p ce
   mv = as_moving m n.positive (long_normal p cell m n)
 
   -- the line of a further point is its wall line
-  as_wall : (j k c : ℕ) → as_line (line_of m k (point_at (support_at p.supports j) (pair_at cell j).0) c (point_at (support_at p.supports j) c))
-      ≡ wall (as_moving m n.positive (long_normal p cell m n)) (point_at (support_at (unperturbed p).supports j) (pair_at cell j).0) (point_at (support_at (unperturbed p).supports j) c)
+  as_wall : (j k c : ℕ) → as_line (line_of m k (point_at (nth_support p.supports j) (pair_at cell j).0) c (point_at (nth_support p.supports j) c))
+      ≡ wall (as_moving m n.positive (long_normal p cell m n)) (point_at (nth_support (unperturbed p).supports j) (pair_at cell j).0) (point_at (nth_support (unperturbed p).supports j) c)
   as_wall j k c =
-      line_is m n.positive (long_normal p cell m n) k c (point_at (support_at p.supports j) (pair_at cell j).0) (point_at (support_at p.supports j) c)
+      line_is m n.positive (long_normal p cell m n) k c (point_at (nth_support p.supports j) (pair_at cell j).0) (point_at (nth_support p.supports j) c)
       ∙ ap₂ (λ (x y : Point). wall (as_moving m n.positive (long_normal p cell m n)) x y) (read_point p j (pair_at cell j).0) (read_point p j c)
 
   module _ (t : Time) (v : Normal) (normal : IsNormal (unperturbed p) cell t v) where
     abbrev Tells : Line → ℕ → ℕ → Type 0
     Tells l j c =
-        (IsPositive (line_at l t) ↔ IsAbove t v (support_at (unperturbed p).supports j) (pair_at cell j).0 c)
-        × (IsZero (line_at l t) ↔ IsLevel t v (support_at (unperturbed p).supports j) (pair_at cell j).0 c)
-        × (IsPositive (minus (line_at l t)) ↔ IsBelow t v (support_at (unperturbed p).supports j) (pair_at cell j).0 c)
+        (IsPositive (line_at l t) ↔ IsAbove t v (nth_support (unperturbed p).supports j) (pair_at cell j).0 c)
+        × (IsZero (line_at l t) ↔ IsLevel t v (nth_support (unperturbed p).supports j) (pair_at cell j).0 c)
+        × (IsPositive (minus (line_at l t)) ↔ IsBelow t v (nth_support (unperturbed p).supports j) (pair_at cell j).0 c)
 
-    tells : (j k c : ℕ) → Tells (as_line (line_of m k (point_at (support_at p.supports j) (pair_at cell j).0) c (point_at (support_at p.supports j) c))) j c
+    tells : (j k c : ℕ) → Tells (as_line (line_of m k (point_at (nth_support p.supports j) (pair_at cell j).0) c (point_at (nth_support p.supports j) c))) j c
     tells j k c =
         let same = same_unperturbed p in
         let well = same_well p u same n.problem in
         let of = same_of p u cell same n.of in
         let ind = same_independent p u cell same n.independent in
         let frame = moving_frame p cell m n in
-        let a = point_at (support_at (unperturbed p).supports j) (pair_at cell j).0 in
-        let x = point_at (support_at (unperturbed p).supports j) c in
+        let a = point_at (nth_support (unperturbed p).supports j) (pair_at cell j).0 in
+        let x = point_at (nth_support (unperturbed p).supports j) c in
         subst (λ (l : Line). Tells l j c) (sym (as_wall j k c))
         (wall_above u cell well of ind mv frame a x t v normal, wall_level u cell well of ind mv frame a x t v normal, wall_below u cell well of ind mv frame a x t v normal)
 
@@ -74,7 +74,7 @@ module _ (p : Problem) (cell : Cell) (m : MovingNormal) (n : IsMovingNormal p ce
     tells_each = all_lines m (TellsSide (unperturbed p) cell t v) 1 p.supports cell
         (λ j k c e f.
         let w : j ≡ k - 1 = omega (arith, e) in
-        subst (λ z. Tells (as_line (line_of m k (point_at (support_at p.supports j) (pair_at cell j).0) c (point_at (support_at p.supports j) c))) z c) w (tells j k c))
+        subst (λ z. Tells (as_line (line_of m k (point_at (nth_support p.supports j) (pair_at cell j).0) c (point_at (nth_support p.supports j) c))) z c) w (tells j k c))
 
   tell_unperturbed : TellSides (unperturbed p) cell (wall_lines m 1 p.supports cell)
   tell_unperturbed t v normal = tells_each t v normal
@@ -91,14 +91,14 @@ module _ (p : Problem) (cell : Cell) (m : MovingNormal) (n : IsMovingNormal p ce
 
     -- the numbers of the line of a further point fit
     further_fits : (j c : ℕ) → IsFurtherAt p cell j c
-        → FitsWhole (alpha m (point_at (support_at p.supports j) (pair_at cell j).0) (point_at (support_at p.supports j) c))
-        × FitsWhole (beta m (point_at (support_at p.supports j) (pair_at cell j).0) (point_at (support_at p.supports j) c))
+        → FitsWhole (alpha m (point_at (nth_support p.supports j) (pair_at cell j).0) (point_at (nth_support p.supports j) c))
+        × FitsWhole (beta m (point_at (nth_support p.supports j) (pair_at cell j).0) (point_at (nth_support p.supports j) c))
     further_fits j c f =
         let count = pairs_long p.supports cell InRange n.of in
         let bound = further_bound p.supports cell j c count f in
         let most : suc j ≤ p.dimension = let d = n.problem.supports in omega (arith, bound, count, d) in
         let r = pair_range p.supports cell j (omega (arith, bound)) n.of in
-        let read : slice_index_or p.supports (suc j - 1) [] ≡ support_at p.supports j =
+        let read : slice_index_or p.supports (suc j - 1) [] ≡ nth_support p.supports j =
         ap (λ z. slice_index_or p.supports z []) (let w : suc j - 1 ≡ j = omega arith in w) ∙ support_read p.supports j in
         subst (λ (s : List Point). (1 ≤ (pair_at cell j).0) × ((pair_at cell j).0 ≤ length s) → (1 ≤ c) × (c ≤ length s)
         → FitsWhole (alpha m (point_at s (pair_at cell j).0) (point_at s c)) × FitsWhole (beta m (point_at s (pair_at cell j).0) (point_at s c))) read

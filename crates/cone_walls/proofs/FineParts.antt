@@ -1,5 +1,5 @@
 -- the parts of a line, point by point, are the sums by rank
-use Rattle.std.proofs.Common.{rules, ◌≡◌, ◌≢◌, ◌⊎◌, inl, inr, ℕ, zero, suc, ◌+◌, ◌*◌, ◌-◌, ◌<◌, ◌≤◌, ◌==◌, Bool, true, false, if◌then◌else◌, List, [], ◌∷◌, ◌++◌, length, arith, refl, sym, ap, ap₂, subst, ◌∙◌}
+use Rattle.std.proofs.Common.{rules, ◌≡◌, ◌≢◌, ℕ, zero, suc, ◌+◌, ◌*◌, ◌-◌, ◌<◌, ◌≤◌, ◌==◌, Bool, true, false, if◌then◌else◌, List, [], ◌∷◌, ◌++◌, length, arith, refl, ap, ap₂, subst, ◌∙◌}
 use Rattle.std.proofs.lemmas.Int.{ints}
 use Rattle.std.proofs.lemmas.Bool.{ne_eqb, eq-eqb, eqb-true}
 use Rattle.std.proofs.lemmas.List.{length-append}
@@ -12,13 +12,14 @@ use Rattle.lex_height.specs.declared.part.LexPart.{LexPart}
 use Rattle.lex_height.specs.Entries.{entry}
 use Rattle.lex_height.specs.Values.{AreParts}
 use Rattle.lex_height.proofs.Ranks.{entry_here, entry_other, entry_below, weaker}
-use Rattle.cayley.specs.Problems.{Point, Problem, origin, point_at}
+use Rattle.cayley.specs.Problems.{Point, Problem, point_at}
 use Rattle.cayley.specs.Cells.{Cell, EachPair, IsFurther}
-use Rattle.cayley.specs.Dependencies.{Numbers, support_at, pair_at, total}
+use Rattle.cayley.specs.Dependencies.{Numbers, pair_at, total, nth_support}
 use Rattle.cayley.specs.Normals.{mark}
 use Rattle.cayley.proofs.OneCell.CellRows.{InRange}
+use Rattle.inner_normal.specs.RankedNumbers.{Ranked, ranked}
 use Rattle.cone_walls.specs.Fines.{has_rank, sum_of_rank}
-use Rattle.cone_walls.specs.Parts.{Ranked, part_of, parts_of, ranked, two_points, three_points, points_in, all_points}
+use Rattle.cone_walls.specs.Parts.{part_of, parts_of, two_points, three_points, points_in, all_points}
 use Rattle.cone_walls.proofs.RisingRanks.{rank_at, AllFrom, Rise, AllRise, from_one}
 
 -- ---- the sum of the numbers of one rank
@@ -125,7 +126,7 @@ behind_weighed r i j c last (m ∷ ms) (s ∷ supports) (x ∷ cell) l =
 
 -- from some support before it on
 all_weighed : (r i j k c : ℕ) (last : ℤ) (ms : List (ℤ × ℤ)) (supports : List (List Point)) (cell : Cell) → j ≡ i + k → k < length ms → k < length supports → k < length cell
-    → weighed r (all_points i j c last ms supports cell) ≡ total ms supports cell (has_rank r) +ℤ last *ℤ has_rank r (point_at (support_at supports k) c)
+    → weighed r (all_points i j c last ms supports cell) ≡ total ms supports cell (has_rank r) +ℤ last *ℤ has_rank r (point_at (nth_support supports k) c)
 all_weighed r i j k c last [] supports cell e lm ls lc = absurd (omega (arith, lm))
 all_weighed r i j k c last (m ∷ ms) [] cell e lm ls lc = absurd (omega (arith, ls))
 all_weighed r i j k c last (m ∷ ms) (s ∷ supports) [] e lm ls lc = absurd (omega (arith, lc))
@@ -145,7 +146,7 @@ all_weighed r i j (suc k) c last (m ∷ ms) (s ∷ supports) (x ∷ cell) e lm l
     ap (λ b. weighed r ((if b then three_points s x m c last else two_points s x m) ++ rest)) t
     ∙ weighed_append r (two_points s x m) rest
     ∙ ap₂ ◌+ℤ◌ (two_weighed r s x m) (all_weighed r (suc i) j k c last ms supports cell (omega (arith, e)) (omega (arith, lm)) (omega (arith, ls)) (omega (arith, lc)))
-    ∙ assoc (pair_sum r s x m) (total ms supports cell (has_rank r)) (last *ℤ has_rank r (point_at (support_at supports k) c))
+    ∙ assoc (pair_sum r s x m) (total ms supports cell (has_rank r)) (last *ℤ has_rank r (point_at (nth_support supports k) c))
   where
     assoc : (a b d : ℤ) → a +ℤ (b +ℤ d) ≡ a +ℤ b +ℤ d
     assoc a b d = omega (arith, ints)
@@ -215,7 +216,7 @@ module _ (s : List Point) (supports : List (List Point)) (up : Rise s) (behind :
       not_less a b e d = let n : ¬ (a < b) = search (rules, e) in omega (arith, n, d)
 
 all_rises : (i j c : ℕ) (last : ℤ) (ms : List (ℤ × ℤ)) (supports : List (List Point)) (cell : Cell) (n : ℕ) → AllFrom n supports → AllRise supports → EachPair supports cell InRange
-    → ((k : ℕ) → j ≡ i + k → IsFurther (support_at supports k) (pair_at cell k).0 (pair_at cell k).1 c) → Rises n (all_points i j c last ms supports cell)
+    → ((k : ℕ) → j ≡ i + k → IsFurther (nth_support supports k) (pair_at cell k).0 (pair_at cell k).1 c) → Rises n (all_points i j c last ms supports cell)
 all_rises i j c last [] supports cell n from rise of h = tt
 all_rises i j c last (m ∷ ms) [] cell n from rise of h = tt
 all_rises i j c last (m ∷ ms) (s ∷ supports) [] n from rise of h = tt
@@ -291,12 +292,12 @@ fits_all i j c last (m ∷ ms) (s ∷ supports) (x ∷ cell) l h =
     (λ t. (a, (b, r)))
 
 -- ---- the parts of a line
-pub parts_fit : (p : Problem) (cell : Cell) (j c : ℕ) (numbers : Numbers) → AllRise p.supports → EachPair p.supports cell InRange → IsFurther (support_at p.supports j) (pair_at cell j).0 (pair_at cell j).1 c
+pub parts_fit : (p : Problem) (cell : Cell) (j c : ℕ) (numbers : Numbers) → AllRise p.supports → EachPair p.supports cell InRange → IsFurther (nth_support p.supports j) (pair_at cell j).0 (pair_at cell j).1 c
     → FitsWhole numbers.last → Each numbers.pairs (λ m. FitsWhole m.0 × FitsWhole m.1) → AreParts 1 (parts_of (all_points 0 j c numbers.last numbers.pairs p.supports cell))
 parts_fit p cell j c numbers rise of further l fits =
     are_parts 1 (all_points 0 j c numbers.last numbers.pairs p.supports cell)
     (all_rises 0 j c numbers.last numbers.pairs p.supports cell 1 (from_one p.supports) rise of
-    (λ k e. let w : j ≡ k = omega (arith, e) in subst (λ z. IsFurther (support_at p.supports z) (pair_at cell z).0 (pair_at cell z).1 c) w further))
+    (λ k e. let w : j ≡ k = omega (arith, e) in subst (λ z. IsFurther (nth_support p.supports z) (pair_at cell z).0 (pair_at cell z).1 c) w further))
     (fits_all 0 j c numbers.last numbers.pairs p.supports cell l fits)
 
 pub parts_few : (p : Problem) (cell : Cell) (j c : ℕ) (numbers : Numbers) → length cell ≤ 16 → length (parts_of (all_points 0 j c numbers.last numbers.pairs p.supports cell)) ≤ 33
@@ -306,7 +307,7 @@ parts_few p cell j c numbers l =
     omega (arith, a, b, l)
 
 pub parts_sum : (p : Problem) (cell : Cell) (j c : ℕ) (numbers : Numbers) → j < length numbers.pairs → j < length p.supports → j < length cell → AreParts 1 (parts_of (all_points 0 j c numbers.last numbers.pairs p.supports cell))
-    → (rank : ℕ) → entry (parts_of (all_points 0 j c numbers.last numbers.pairs p.supports cell)) rank ≡ sum_of_rank numbers p cell (point_at (support_at p.supports j) c) rank
+    → (rank : ℕ) → entry (parts_of (all_points 0 j c numbers.last numbers.pairs p.supports cell)) rank ≡ sum_of_rank numbers p cell (point_at (nth_support p.supports j) c) rank
 parts_sum p cell j c numbers lm ls lc h rank =
     entry_weighed (all_points 0 j c numbers.last numbers.pairs p.supports cell) rank 1 h
     ∙ all_weighed rank 0 j j c numbers.last numbers.pairs p.supports cell (omega arith) lm ls lc

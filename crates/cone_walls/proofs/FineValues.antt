@@ -1,11 +1,12 @@
 -- the value of a line is the sum of the heights of its circuit's points times their numbers
-use Rattle.std.proofs.Common.{◌≡◌, ℕ, zero, suc, ◌+◌, ◌-◌, ◌≤◌, ◌++◌, List, [], ◌∷◌, length, map, arith, refl, sym, ap, ap₂, subst, ◌∙◌, ◌<ℤ◌}
+use Rattle.std.proofs.Common.{◌≡◌, ℕ, zero, suc, ◌+◌, ◌-◌, ◌++◌, List, [], ◌∷◌, map, arith, refl, sym, ap, ap₂, ◌∙◌}
 use Rattle.std.proofs.lemmas.Int.{ints}
 use Rattle.std.specs.Prelude.{slice_index_or}
 use Rattle.std.proofs.Math.ListN.{replicate}
 use Rattle.std.proofs.Math.IntN.{ℤ, pos, ◌+ℤ◌, ◌*ℤ◌, *ℤ-zero}
 use Rattle.wide_int.proofs.Ring.{as_D, Ds, same_D}
 use Rattle.int_vectors.specs.Vectors.{add, scale, at}
+use Rattle.int_vectors.proofs.Entries.{at-scale, at-add}
 use Rattle.lex_height.specs.declared.part.LexPart.{LexPart}
 use Rattle.lex_height.specs.Entries.{entry, entries_from}
 use Rattle.lex_height.specs.Values.{AreParts}
@@ -15,7 +16,6 @@ use Rattle.cayley.specs.Problems.{Point, Problem, point_at, with_rank, unperturb
 use Rattle.cayley.specs.Cells.{Cell}
 use Rattle.cayley.specs.Dependencies.{Numbers, total, sum_of_heights, sum_at}
 use Rattle.cayley.specs.Normals.{mark, height}
-use Rattle.cayley.proofs.Algebra.ScaledInverse.{at-add, at-scale}
 use Rattle.cayley.proofs.OneCell.CellLines.{base_of, height-at}
 use Rattle.cayley.proofs.OneCell.Unperturbed.{unranked, point_unranked}
 use Rattle.crossing.specs.declared.line.WallLine.{WallLine}

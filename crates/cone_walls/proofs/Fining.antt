@@ -1,36 +1,38 @@
 -- the lines get the parts of their circuits
-use Rattle.std.proofs.Common.{◌≡◌, ◌≢◌, ◌⊎◌, ◌↔◌, inl, inr, ℕ, zero, suc, ◌+◌, ◌*◌, ◌-◌, ◌<◌, ◌≤◌, ◌==◌, Bool, true, false, if◌then◌else◌, List, [], ◌∷◌, ◌++◌, length, map, drop, get_or, drop-cons, add-one, drop_of_length-le, append_assoc, append-nil, arith, refl, sym, ap, ap₂, subst, ◌∙◌, ◌<ℤ◌}
-use Rattle.std.specs.Prelude.{All, nat_lt, slice_index_or}
+use Rattle.std.proofs.Common.{◌≡◌, ◌≢◌, ℕ, zero, suc, ◌+◌, ◌*◌, ◌-◌, ◌<◌, ◌≤◌, true, false, if◌then◌else◌, List, [], ◌∷◌, ◌++◌, length, map, drop, get_or, drop-cons, drop_of_length-le, append_assoc, append-nil, arith, refl, sym, ap, ap₂, subst, ◌∙◌}
+use Rattle.std.specs.Prelude.{All, nat_lt}
 use Rattle.std.proofs.Math.IntN.{ℤ, pos}
-use Rattle.std.proofs.lemmas.List.Elements.{All-append}
+use Rattle.std.proofs.lemmas.List.{length-map}
 use Rattle.wide_int.specs.Whole.{FitsWhole}
 use Rattle.int_vectors.specs.Fits.{AllFit}
-use Rattle.int_vectors.specs.Vectors.{Each}
+use Rattle.int_vectors.specs.Vectors.{Each, dot}
 use Rattle.lex_height.specs.declared.part.LexPart.{LexPart}
 use Rattle.reduced_rows.specs.declared.faults.FromFault.{FromFault}
-use Rattle.reduced_rows.specs.CellRefusals.{IsEliminated}
 use Rattle.reduced_rows.specs.Refusals.{IsFromFault}
-use Rattle.cayley.specs.Problems.{Version, version_number, Point, Problem, point_at, with_rank, unperturbed, ranked_supports, HasRanks}
+use Rattle.cayley.specs.Problems.{Version, version_number, Point, Problem, IsProblem, point_at, unperturbed, ranked_supports}
 use Rattle.cayley.specs.Problems.Version.{version1, version2}
-use Rattle.cayley.specs.Cells.{Cell, EachPair, IsOf}
+use Rattle.cayley.specs.Cells.{Cell, IsOf}
 use Rattle.cayley.specs.Dependencies as places
-use Rattle.cayley.specs.Dependencies.{pair_at, IsFurtherAt, number_at}
+use Rattle.cayley.specs.Dependencies.{IsFurtherAt, number_at}
 use Rattle.cayley.specs.Valid.{IsValidProblem, support_at}
 use Rattle.cayley.proofs.Lists.Each.{all_each, each_all, each_append, each_weaker}
 use Rattle.cayley.proofs.OneCell.CellRows.{InRange}
 use Rattle.crossing.specs.declared.line.WallLine.{WallLine}
 use Rattle.crossing.specs.Lines.{FitsLine}
-use Rattle.inner_normal.specs.Coefficients.{difference, coefficients_of, pairs_of, last_of, numbers_of, FitsCoefficients}
+use Rattle.inner_normal.specs.Coefficients.{difference, products, coefficients_of, pairs_of, last_of, numbers_of, FitsCoefficients}
 use Rattle.inner_normal.specs.Inverses.{Inverse, inverse_of, FitsInverse}
 use Rattle.inner_normal.proofs.Faults.{fault_other}
-use Rattle.inner_normal.proofs.Reading.{cell_long, support_read}
+use Rattle.inner_normal.proofs.PairNumbers.{length-coefficients}
+use Rattle.inner_normal.proofs.Reading.{cell_long}
+use Rattle.inner_normal.specs.RankedNumbers.{Ranked, ranked}
+use Rattle.inner_normal.proofs.PairLists.{pairs_count}
 use Rattle.cone_walls.specs.Fines.{sum_of_rank, HasFine}
 use Rattle.cone_walls.specs.Listed.{coarse}
-use Rattle.cone_walls.specs.Parts.{part_of, parts_of, Ranked, ranked, two_points, three_points, points_in, all_points, IsFineOf, IsFurtherLine, FitsCircuitOf, IsRefined, AreRefined}
+use Rattle.cone_walls.specs.Parts.{part_of, parts_of, two_points, three_points, points_in, all_points, IsFineOf, IsFurtherLine, FitsCircuitOf, IsRefined, AreRefined}
 use Rattle.cone_walls.specs.Places.{HasLine, AreOfFurtherPoints}
 use Rattle.cone_walls.specs.Workings.{FitsCircuits}
 use Rattle.cone_walls.proofs.FurtherLines.{each_has}
-use Rattle.cone_walls.proofs.Pushing.{pair_of, same_count}
+use Rattle.cone_walls.proofs.Pushing.{pair_of}
 use Rattle.cone_walls.proofs.RisingRanks.{ranks_rise}
 use Rattle.cone_walls.proofs.FineParts.{parts_fit, parts_few, parts_sum}
 use Rattle.cone_walls.proofs.Telling.{coarse_fine}
@@ -127,16 +129,19 @@ last_points k j c last ms supports cell old all l e =
     sym (append-nil old) ∙ ap (λ (z : List (ℤ × ℤ)). old ++ parts_of (all_points k j c last z (drop k supports) (drop k cell))) (sym (drop_of_length-le ms l)) ∙ e
 
 -- ---- the numbers of a circuit
-pub length_pairs : (xs : List ℤ) (n : ℕ) → length xs ≡ 2 * n + 1 → length (pairs_of xs) ≡ n
-length_pairs [] n e = absurd (omega (arith, e))
-length_pairs (x ∷ []) n e = omega (arith, e)
-length_pairs (x ∷ y ∷ xs) zero e = absurd (omega (arith, e))
-length_pairs (x ∷ y ∷ xs) (suc n) e = ap suc (length_pairs xs n (omega (arith, e)))
-
 fits_pairs : (xs : List ℤ) → AllFit xs → Each (pairs_of xs) (λ m. FitsWhole m.0 × FitsWhole m.1)
 fits_pairs [] h = tt
 fits_pairs (x ∷ []) h = tt
 fits_pairs (x ∷ y ∷ xs) h = ((h.0, h.1.0), fits_pairs xs h.1.1)
+
+-- two numbers for each pair and one for the point
+pub count_by : (p : Problem) (cell : Cell) (inverse : Inverse) (j : ℕ) (v xs : List ℤ) → IsProblem p → IsOf p cell → length inverse.columns ≡ p.dimension → xs ≡ coefficients_of j inverse v → length xs ≡ 2 * length cell + 1
+count_by p cell inverse j v xs well of count is =
+    let n = well.supports in
+    let k = cell_long p.supports cell InRange of in
+    let m = length-map inverse.columns (dot v) in
+    let l = length-coefficients 0 j inverse.den (products v inverse.columns) in
+    ap length is ∙ l ∙ ap (λ z. 2 * z + 1) (omega (arith, n, k, m, count))
 
 pub fine_is : (p : Problem) (cell : Cell) (inverse : Inverse) (j c : ℕ) (xs : List ℤ) (last : ℤ) (fine : List LexPart) → IsValidProblem p → IsOf p cell → j < p.dimension → IsFurtherAt p cell j c
     → xs ≡ coefficients_of j inverse (difference p cell j c) → AllFit xs → length xs ≡ 2 * length cell + 1 → last_of xs ≡ inverse.den → last ≡ inverse.den → FitsWhole last
@@ -147,22 +152,32 @@ fine_is p cell inverse j c xs last fine valid of below further made fits count e
     let k = cell_long p.supports cell InRange of in
     let q : last ≡ last_of xs = own ∙ sym end in
     let whole : fine ≡ parts_of (all_points 0 j c (last_of xs) (pairs_of xs) p.supports cell) = is ∙ ap (λ z. parts_of (all_points 0 j c z (pairs_of xs) p.supports cell)) q in
-    let m = length_pairs xs (length cell) count in
+    let m = pairs_count xs (length cell) count in
     let are = parts_fit p cell j c (numbers_of xs) (ranks_rise p n valid.shape.corners valid.ranks) of further (subst FitsWhole q own_fits) (fits_pairs xs fits) in
     let few = parts_few p cell j c (numbers_of xs) (omega (arith, k, n, d.1)) in
     let sum = parts_sum p cell j c (numbers_of xs) (omega (arith, m, k, n, below)) (omega (arith, n, below)) (omega (arith, k, n, below)) are in
     subst (λ ys. IsFineOf p cell inverse j c ys) (sym whole)
-    (record { few = few; parts = are; sum = λ rank. sum rank ∙ ap (λ zs. sum_of_rank (numbers_of zs) p cell (point_at (places.support_at p.supports j) c) rank) made })
+    (record { few = few; parts = are; sum = λ rank. sum rank ∙ ap (λ zs. sum_of_rank (numbers_of zs) p cell (point_at (places.nth_support p.supports j) c) rank) made })
 
 -- ---- all lines
-fine_has : (p : Problem) (cell : Cell) (made : List (List ℤ)) (inverse : Inverse) (l k : WallLine) → inverse ≡ inverse_of made → IsRefined p cell inverse l k → HasFine p cell made k
-fine_has p cell made inverse l k e h =
+fine_there : (p : Problem) (cell : Cell) (inverse : Inverse) (l k : WallLine) → IsRefined p cell inverse l k → IsFineOf p cell inverse (k.support - 1) k.position k.fine
+fine_there p cell inverse l k h =
     let s = ap (λ (x : WallLine). x.support) h.0 in
     let q = ap (λ (x : WallLine). x.position) h.0 in
-    let f = subst (λ (i : Inverse). IsFineOf p cell i (l.support - 1) l.position k.fine) e h.1 in
-    let g = subst (λ n. IsFineOf p cell (inverse_of made) (n - 1) l.position k.fine) (sym s) f in
-    let r = subst (λ n. IsFineOf p cell (inverse_of made) (k.support - 1) n k.fine) (sym q) g in
+    let g = subst (λ n. IsFineOf p cell inverse (n - 1) l.position k.fine) (sym s) h.1 in
+    subst (λ n. IsFineOf p cell inverse (k.support - 1) n k.fine) (sym q) g
+
+fine_has : (p : Problem) (cell : Cell) (made : List (List ℤ)) (inverse : Inverse) (l k : WallLine) → inverse ≡ inverse_of made → IsRefined p cell inverse l k → HasFine p cell made k
+fine_has p cell made inverse l k e h =
+    let r = subst (λ (i : Inverse). IsFineOf p cell i (k.support - 1) k.position k.fine) e (fine_there p cell inverse l k h) in
     (r.parts, r.sum)
+
+-- each line has the parts of its own point
+pub refined_parts : (p : Problem) (cell : Cell) (inverse : Inverse) (lines made : List WallLine) → AreRefined p cell inverse lines made → Each made (λ k. IsFineOf p cell inverse (k.support - 1) k.position k.fine)
+refined_parts p cell inverse [] [] h = tt
+refined_parts p cell inverse [] (k ∷ made) h = absurd h
+refined_parts p cell inverse (l ∷ lines) [] h = absurd h
+refined_parts p cell inverse (l ∷ lines) (k ∷ made) h = (fine_there p cell inverse l k h.0, refined_parts p cell inverse lines made h.1)
 
 pub refined_coarse : (p : Problem) (cell : Cell) (inverse : Inverse) (lines made : List WallLine) → AreRefined p cell inverse lines made → map coarse made ≡ map coarse lines
 refined_coarse p cell inverse [] [] h = refl
@@ -176,7 +191,7 @@ refined_fine p cell rows inverse e [] (k ∷ made) h = absurd h
 refined_fine p cell rows inverse e (l ∷ lines) [] h = absurd h
 refined_fine p cell rows inverse e (l ∷ lines) (k ∷ made) h = (fine_has p cell rows inverse l k e h.0, refined_fine p cell rows inverse e lines made h.1)
 
-refined_fit : (p : Problem) (cell : Cell) (inverse : Inverse) (lines made : List WallLine) → AreRefined p cell inverse lines made → Each made FitsLine
+pub refined_fit : (p : Problem) (cell : Cell) (inverse : Inverse) (lines made : List WallLine) → AreRefined p cell inverse lines made → Each made FitsLine
 refined_fit p cell inverse [] [] h = tt
 refined_fit p cell inverse [] (k ∷ made) h = absurd h
 refined_fit p cell inverse (l ∷ lines) [] h = absurd h
@@ -240,7 +255,7 @@ module _ (p : Problem) (cell : Cell) (valid : IsValidProblem p) (rows : List (Li
       let v = first_version p.version e in
       ap₂ (λ (v : Version) (ss : List (List Point)). record p { version = v; supports = ss }) v (valid.ranks ∙ ap (λ (v : Version). ranked_supports v p.files p.supports) v)
 
-  coarse_same : (lines : List WallLine) → Each lines (λ l. l.fine ≡ []) → map coarse lines ≡ lines
+  pub coarse_same : (lines : List WallLine) → Each lines (λ l. l.fine ≡ []) → map coarse lines ≡ lines
   coarse_same [] h = refl
   coarse_same (l ∷ lines) h = ap₂ (λ (x : WallLine) (xs : List WallLine). x ∷ xs) (ap (λ (f : List LexPart). record l { fine = f }) (sym h.0)) (coarse_same lines h.1)
 

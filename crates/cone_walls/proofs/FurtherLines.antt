@@ -1,14 +1,15 @@
 -- the list has one line for each further point, in order
 use Rattle.std.proofs.Common.{◌≡◌, ◌≢◌, inl, inr, ℕ, zero, suc, ◌+◌, ◌-◌, ◌<◌, ◌≤◌, Bool, true, false, if◌then◌else◌, ◌==◌, List, [], ◌∷◌, ◌++◌, length, arith, refl, sym, subst, ◌∙◌}
-use Rattle.std.proofs.lemmas.Bool.{eq-eqb, eqb-true}
+use Rattle.std.proofs.lemmas.Bool.{eqb-true}
 use Rattle.std.specs.Prelude.{slice_index_or}
 use native.Mathlib.Decide.{ℕ_discrete}
 use Rattle.int_vectors.specs.Vectors.{Each}
 use Rattle.cayley.specs.Problems.{Point, Problem, origin, point_at}
 use Rattle.cayley.specs.Cells.{Cell, EachPair, IsOf, IsFurther}
-use Rattle.cayley.specs.Dependencies.{support_at, pair_at, IsFurtherAt}
+use Rattle.cayley.specs.Dependencies.{pair_at, IsFurtherAt, nth_support}
 use Rattle.cayley.proofs.Lists.Each.{each_append}
 use Rattle.crossing.specs.declared.line.WallLine.{WallLine}
+use Rattle.cayley.proofs.OneCell.MovingNormals.{apart}
 use Rattle.inner_normal.specs.declared.moving.MovingNormal.{MovingNormal}
 use Rattle.cone_walls.specs.Numbers.{alpha, beta}
 use Rattle.cone_walls.specs.Listed.{line_of, lines_from, wall_lines}
@@ -23,13 +24,6 @@ choose P false xs ys f g = g refl
 chosen : {R : Type 0} (P : List WallLine → Type 0) (test : Bool) (xs ys : List WallLine) → P (if test then xs else ys) → (test ≡ true → P xs → R) → (test ≡ false → P ys → R) → R
 chosen P true xs ys e f g = f refl e
 chosen P false xs ys e f g = g refl e
-
-abbrev IsOn : Bool → Type 0
-IsOn true = Unit {0}
-IsOn false = ⊥
-
-apart : (k a : ℕ) → (k == a) ≡ false → k ≢ a
-apart k a e q = subst IsOn (sym (eq-eqb k a q) ∙ e) tt
 
 each_parts : (Q : WallLine → Type 0) (xs ys : List WallLine) → Each (xs ++ ys) Q → Each xs Q × Each ys Q
 each_parts Q [] ys h = (tt, h)
@@ -90,8 +84,8 @@ module _ (m : MovingNormal) where
   -- ---- the lines of all supports
   -- of each further point; the supports count from i
   abbrev pub Further : (WallLine → Type 0) → ℕ → List (List Point) → Cell → Type 0
-  Further Q i supports cell = (j k c : ℕ) → k ≡ i + j → IsFurther (support_at supports j) (pair_at cell j).0 (pair_at cell j).1 c
-      → Q (line_of m k (point_at (support_at supports j) (pair_at cell j).0) c (point_at (support_at supports j) c))
+  Further Q i supports cell = (j k c : ℕ) → k ≡ i + j → IsFurther (nth_support supports j) (pair_at cell j).0 (pair_at cell j).1 c
+      → Q (line_of m k (point_at (nth_support supports j) (pair_at cell j).0) c (point_at (nth_support supports j) c))
 
   pub all_lines : (Q : WallLine → Type 0) (i : ℕ) (supports : List (List Point)) (cell : Cell) → Further Q i supports cell → Each (wall_lines m i supports cell) Q
   all_lines Q i [] cell f = tt
@@ -131,7 +125,7 @@ each_has Q [] j c e h = absurd h
 each_has Q (l ∷ lines) j c e (inl h) = subst (λ z. Q z c) h.0 (subst (Q l.support) h.1 e.0)
 each_has Q (l ∷ lines) j c e (inr h) = each_has Q lines j c e.1 h
 
-has_each : (lines : List WallLine) → Each lines (λ l. HasLine lines l.support l.position)
+pub has_each : (lines : List WallLine) → Each lines (λ l. HasLine lines l.support l.position)
 has_each [] = tt
 has_each (l ∷ lines) = (inl (refl, refl), later lines (has_each lines))
   where
@@ -159,8 +153,8 @@ have_numbers m p cell =
     (λ j k c e f.
     let w : j ≡ k - 1 = omega (arith, e) in
     subst (λ z.
-    (alpha m (point_at (support_at p.supports j) (pair_at cell j).0) (point_at (support_at p.supports j) c) ≡ alpha m (point_at (support_at p.supports z) (pair_at cell z).0) (point_at (support_at p.supports z) c))
-    × (beta m (point_at (support_at p.supports j) (pair_at cell j).0) (point_at (support_at p.supports j) c) ≡ beta m (point_at (support_at p.supports z) (pair_at cell z).0) (point_at (support_at p.supports z) c)))
+    (alpha m (point_at (nth_support p.supports j) (pair_at cell j).0) (point_at (nth_support p.supports j) c) ≡ alpha m (point_at (nth_support p.supports z) (pair_at cell z).0) (point_at (nth_support p.supports z) c))
+    × (beta m (point_at (nth_support p.supports j) (pair_at cell j).0) (point_at (nth_support p.supports j) c) ≡ beta m (point_at (nth_support p.supports z) (pair_at cell z).0) (point_at (nth_support p.supports z) c)))
     w (refl, refl))
 
 -- each of a further point
@@ -170,7 +164,7 @@ are_further m p cell =
     (λ j k c e f. let w : j ≡ k - 1 = omega (arith, e) in subst (λ z. IsFurtherAt p cell z c) w f)
 
 -- of a support of the problem
-inside : (supports : List (List Point)) (cell : Cell) (j c : ℕ) → IsFurther (support_at supports j) (pair_at cell j).0 (pair_at cell j).1 c → j < length supports
+inside : (supports : List (List Point)) (cell : Cell) (j c : ℕ) → IsFurther (nth_support supports j) (pair_at cell j).0 (pair_at cell j).1 c → j < length supports
 inside [] cell j c h = let a = h.0 in let b = h.1 in absurd (omega (arith, a, b))
 inside (s ∷ supports) [] zero c h = omega arith
 inside (s ∷ supports) (x ∷ cell) zero c h = omega arith

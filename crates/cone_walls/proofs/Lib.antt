@@ -1,15 +1,15 @@
 pub mod ProblemPoints
-pub mod Pushing
-pub mod MovingFrame
-pub mod LineLists
+mod Pushing
+mod MovingFrame
+mod LineLists
 pub mod FurtherLines
-pub mod FineValues
-pub mod RisingRanks
-pub mod FineParts
+mod FineValues
+mod RisingRanks
+mod FineParts
 pub mod Fining
 pub mod Telling
 pub mod Living
-pub mod Outcomes
+mod Outcomes
 pub mod Making
 mod RoomAround
 mod LeadingLines

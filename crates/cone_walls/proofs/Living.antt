@@ -1,12 +1,12 @@
 -- a cell is alive exactly where all its lines are positive
-use Rattle.std.proofs.Common.{◌≡◌, ◌⊎◌, ◌↔◌, inl, inr, ℕ, zero, suc, ◌-◌, ◌<◌, ◌≤◌, List, [], ◌∷◌, length, arith, refl, sym, subst, ◌∙◌}
+use Rattle.std.proofs.Common.{◌≡◌, ◌↔◌, ℕ, suc, ◌-◌, List, [], ◌∷◌, arith, sym, subst}
 use Rattle.std.specs.Prelude.{All}
 use Rattle.int_vectors.specs.Vectors.{Each, IsPositive}
 use Rattle.cayley.specs.Times.{Time}
-use Rattle.cayley.specs.Problems.{Point, Problem, IsProblem, point_at}
+use Rattle.cayley.specs.Problems.{Point, Problem, IsProblem}
 use Rattle.cayley.specs.Cells.{Cell, EachPair, IsOf, IsIndependent, IsFurther}
-use Rattle.cayley.specs.Dependencies.{support_at, pair_at, IsFurtherAt}
-use Rattle.cayley.specs.Normals.{Normal, IsNormal, IsAbove, AllAbove}
+use Rattle.cayley.specs.Dependencies.{pair_at, IsFurtherAt, nth_support}
+use Rattle.cayley.specs.Normals.{IsAbove}
 use Rattle.cayley.specs.Mixed.{IsAlive}
 use Rattle.cayley.proofs.Lists.Each.{all_each, each_all, each_weaker, each_both}
 use Rattle.cayley.proofs.OneCell.OneNormal.{one_normal_law, alive_by_any_normal}
@@ -15,25 +15,19 @@ use Rattle.crossing.specs.declared.entry.Entry.TheVariants.{Dead}
 use Rattle.crossing.specs.Lines.{value, ArePositive}
 use Rattle.crossing.specs.Entries.{IsEntry}
 use Rattle.crossing.proofs.Between.{positive_between_is}
+use Rattle.cayley.proofs.Life.NamedTies.{pair_place}
 use Rattle.cone_walls.specs.Lives.{IsNeverAlive, LivesBetween}
-use Rattle.cone_walls.specs.Places.{HasLine, AreOfFurtherPoints}
+use Rattle.cone_walls.specs.Places.{AreOfFurtherPoints}
 use Rattle.cone_walls.specs.Sides.{TellsSide, TellSides}
 use Rattle.cone_walls.proofs.FurtherLines.{each_has}
 
 -- ---- from places to pairs and back
 pairs_from : (R : List Point → ℕ → ℕ → Type 0) (Q : List Point → ℕ → ℕ → Type 0) (supports : List (List Point)) (cell : Cell) → EachPair supports cell R
-    → ((j c : ℕ) → IsFurther (support_at supports j) (pair_at cell j).0 (pair_at cell j).1 c → Q (support_at supports j) (pair_at cell j).0 c) → EachPair supports cell (λ s a b. (c : ℕ) → IsFurther s a b c → Q s a c)
+    → ((j c : ℕ) → IsFurther (nth_support supports j) (pair_at cell j).0 (pair_at cell j).1 c → Q (nth_support supports j) (pair_at cell j).0 c) → EachPair supports cell (λ s a b. (c : ℕ) → IsFurther s a b c → Q s a c)
 pairs_from R Q [] [] of f = tt
 pairs_from R Q [] (x ∷ cell) of f = of
 pairs_from R Q (s ∷ supports) [] of f = of
 pairs_from R Q (s ∷ supports) (x ∷ cell) of f = ((λ c h. f 0 c h), pairs_from R Q supports cell of.1 (λ j c h. f (suc j) c h))
-
-from_pairs : (Q : List Point → ℕ → ℕ → Type 0) (supports : List (List Point)) (cell : Cell) → EachPair supports cell (λ s a b. (c : ℕ) → IsFurther s a b c → Q s a c)
-    → (j c : ℕ) → IsFurther (support_at supports j) (pair_at cell j).0 (pair_at cell j).1 c → Q (support_at supports j) (pair_at cell j).0 c
-from_pairs Q [] cell f j c h = let a = h.0 in let b = h.1 in absurd (omega (arith, a, b))
-from_pairs Q (s ∷ supports) [] f j c h = absurd f
-from_pairs Q (s ∷ supports) (x ∷ cell) f zero c h = f.0 c h
-from_pairs Q (s ∷ supports) (x ∷ cell) f (suc j) c h = from_pairs Q supports cell f.1 j c h
 
 each_all_lines : (P : WallLine → Type 0) (lines : List WallLine) → Each lines P → All P lines
 each_all_lines P lines h k d l = all_each P lines h k d l
@@ -49,21 +43,21 @@ module _ (p : Problem) (cell : Cell) (well : IsProblem p) (of : IsOf p cell) (in
       let above = (alive_by_any_normal p cell t v.0 well of ind v.1).0 alive in
       each_all_lines (λ l. IsPositive (value l t.entries t.over)) lines
       (each_weaker (λ l. IsFurtherAt p cell (l.support - 1) l.position × TellsSide p cell t v.0 l) (λ l. IsPositive (value l t.entries t.over)) lines
-      (λ l h. h.1.0.1 (from_pairs (λ s a c. IsAbove t v.0 s a c) p.supports cell above (l.support - 1) l.position h.0))
+      (λ l h. h.1.0.1 (pair_place (λ s a c. IsAbove t v.0 s a c) p.supports cell above (l.support - 1) l.position h.0))
       (each_both (λ l. IsFurtherAt p cell (l.support - 1) l.position) (TellsSide p cell t v.0) lines further (sides t v.0 v.1)))
 
   pub positive_alive : ArePositive lines t.entries t.over → IsAlive p cell t
   positive_alive h =
       let v = (one_normal_law p cell t well of ind).0 in
-      let above = each_weaker (λ l. IsPositive (value l t.entries t.over) × TellsSide p cell t v.0 l) (λ l. IsAbove t v.0 (support_at p.supports (l.support - 1)) (pair_at cell (l.support - 1)).0 l.position) lines
+      let above = each_weaker (λ l. IsPositive (value l t.entries t.over) × TellsSide p cell t v.0 l) (λ l. IsAbove t v.0 (nth_support p.supports (l.support - 1)) (pair_at cell (l.support - 1)).0 l.position) lines
       (λ l k. k.1.0.0 k.0)
       (each_both (λ l. IsPositive (value l t.entries t.over)) (TellsSide p cell t v.0) lines (each_all (λ l. IsPositive (value l t.entries t.over)) lines h) (sides t v.0 v.1)) in
       (alive_by_any_normal p cell t v.0 well of ind v.1).1
       (pairs_from _ (λ s a c. IsAbove t v.0 s a c) p.supports cell of
       (λ j c f.
       let w : j ≡ suc j - 1 = omega arith in
-      subst (λ z. IsAbove t v.0 (support_at p.supports z) (pair_at cell z).0 c) (sym w)
-      (each_has (λ k d. IsAbove t v.0 (support_at p.supports (k - 1)) (pair_at cell (k - 1)).0 d) lines (suc j) c above ((places.1 (suc j) c).1 (omega arith, subst (λ z. IsFurtherAt p cell z c) w f)))))
+      subst (λ z. IsAbove t v.0 (nth_support p.supports z) (pair_at cell z).0 c) (sym w)
+      (each_has (λ k d. IsAbove t v.0 (nth_support p.supports (k - 1)) (pair_at cell (k - 1)).0 d) lines (suc j) c above ((places.1 (suc j) c).1 (omega arith, subst (λ z. IsFurtherAt p cell z c) w f)))))
 
 module _ (p : Problem) (cell : Cell) (well : IsProblem p) (of : IsOf p cell) (ind : IsIndependent p cell) (lines : List WallLine) (further : AreFurther p cell lines) (places : AreOfFurtherPoints p cell lines) (sides : TellSides p cell lines) where
   pub never_dead : IsNeverAlive p cell ↔ IsEntry lines Dead

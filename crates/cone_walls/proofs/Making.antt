@@ -1,5 +1,5 @@
 -- what is said of the lines that are made
-use Rattle.std.proofs.Common.{◌≡◌, ◌⊎◌, ◌↔◌, ℕ, suc, ◌-◌, ◌≤◌, List, [], ◌∷◌, map, ℤ, pos, arith, refl, sym, ap, ap₂, subst, ◌∙◌}
+use Rattle.std.proofs.Common.{◌≡◌, ◌⊎◌, ◌↔◌, ℕ, ◌-◌, ◌≤◌, List, [], ◌∷◌, map, ℤ, pos, refl, sym, ap, ap₂, subst, ◌∙◌}
 use Rattle.int_vectors.specs.Vectors.{Each}
 use Rattle.reduced_rows.specs.CellRefusals.{IsEliminated}
 use Rattle.lex_height.specs.declared.part.LexPart.{LexPart}
@@ -9,16 +9,15 @@ use Rattle.lex_height.proofs.Ranks.{entry_here}
 use Rattle.cayley.specs.Problems.{Version, Point, Problem, point_at, unperturbed, ranked_supports, HasRanks, HasSamePoints}
 use Rattle.cayley.specs.Problems.Version.{version1}
 use Rattle.cayley.specs.Cells.{Cell, IsIndependent}
-use Rattle.cayley.specs.Rows.{edge_rows}
-use Rattle.cayley.specs.Dependencies.{support_at, IsFurtherAt}
-use Rattle.cayley.proofs.Lists.Each.{each_map, each_unmap, each_weaker, each_both}
+use Rattle.cayley.specs.Dependencies.{IsFurtherAt, nth_support}
+use Rattle.cayley.proofs.Lists.Each.{each_unmap, each_weaker, each_both}
 use Rattle.cayley.proofs.OneCell.Unperturbed.{unranked, support_unranked, same_rows, same_unperturbed}
 use Rattle.crossing.specs.declared.line.WallLine.{WallLine}
 use Rattle.crossing.specs.declared.entry.Entry.TheVariants.{Dead}
 use Rattle.crossing.specs.Entries.{IsEntry}
 use Rattle.inner_normal.specs.declared.moving.MovingNormal.{MovingNormal}
 use Rattle.inner_normal.specs.MovingNormals.{IsMovingNormal}
-use Rattle.cone_walls.specs.Listed.{wall_lines, coarse}
+use Rattle.cone_walls.specs.Listed.{coarse}
 use Rattle.cone_walls.specs.Fines.{circuit_of, sum_of_rank, HasFine}
 use Rattle.cone_walls.specs.Lives.{IsNeverAlive, LivesBetween}
 use Rattle.cone_walls.specs.Made.{IsMade}
@@ -35,11 +34,11 @@ use Rattle.cone_walls.proofs.Outcomes.{working_fits}
 order_of : (l : WallLine) (lines : List WallLine) → Each (map coarse lines) (IsEarlier (coarse l)) → Each lines (IsEarlier l)
 order_of l lines h = each_unmap coarse (IsEarlier (coarse l)) lines h
 
-in_order : (lines : List WallLine) → AreInOrder (map coarse lines) → AreInOrder lines
+pub in_order : (lines : List WallLine) → AreInOrder (map coarse lines) → AreInOrder lines
 in_order [] h = tt
 in_order (l ∷ lines) h = (order_of l lines h.0, in_order lines h.1)
 
-has_line : (lines : List WallLine) (j c : ℕ) → HasLine (map coarse lines) j c ≡ HasLine lines j c
+pub has_line : (lines : List WallLine) (j c : ℕ) → HasLine (map coarse lines) j c ≡ HasLine lines j c
 has_line [] j c = refl
 has_line (l ∷ lines) j c = ap (λ (A : Type 0). ((l.support ≡ j) × (l.position ≡ c)) ⊎ A) (has_line lines j c)
 
@@ -56,11 +55,11 @@ plain_fine p cell reduced ranks first line f =
     let j = line.support - 1 in
     let n = circuit_of p cell reduced j line.position in
     let same : p ≡ unperturbed p = ap₂ (λ (v : Version) (ss : List (List Point)). record p { version = v; supports = ss }) first (ranks ∙ ap (λ (v : Version). ranked_supports v p.files p.supports) first) in
-    let here : support_at p.supports j ≡ unranked (support_at p.supports j) = ap (λ (q : Problem). support_at q.supports j) same ∙ support_unranked p.supports j in
+    let here : nth_support p.supports j ≡ unranked (nth_support p.supports j) = ap (λ (q : Problem). nth_support q.supports j) same ∙ support_unranked p.supports j in
     no_parts 1 line.fine f.0
     (λ rank. f.1 rank
     ∙ ap₂ (λ (q : Problem) (s : List Point). sum_of_rank n q cell (point_at s line.position) rank) same here
-    ∙ sum_unranked n p cell (support_at p.supports j) line.position rank)
+    ∙ sum_unranked n p cell (nth_support p.supports j) line.position rank)
 
 module _ (p : Problem) (cell : Cell) (reduced : List (List ℤ)) (normal : MovingNormal) (lines : List WallLine) (h : IsMade p cell reduced normal lines) where
   moves : IsMovingNormal p cell normal

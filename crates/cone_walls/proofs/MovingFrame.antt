@@ -3,27 +3,20 @@ use Rattle.std.proofs.Common.{◌≡◌, ℕ, List, [], ◌∷◌, length, arith
 use Rattle.std.proofs.lemmas.Int.{ints}
 use Rattle.std.proofs.Math.IntN.{ℤ, pos, ◌+ℤ◌, ◌*ℤ◌, *ℤ_comm}
 use Rattle.int_vectors.specs.Vectors.{IsZero, add, sub, scale, comb, at}
+use Rattle.int_vectors.proofs.Entries.{at-scale, at-add, zero_from}
 use Rattle.cayley.specs.Times.{Time, time_zero}
 use Rattle.cayley.specs.Problems.{Point, Problem, point_at, unperturbed}
 use Rattle.cayley.specs.Cells.{Cell, EachPair}
 use Rattle.cayley.specs.Normals.{Normal, height, gap}
-use Rattle.cayley.proofs.Algebra.ScaledInverse.{at-add, at-scale}
 use Rattle.cayley.proofs.Algebra.RowNormals.{at-zero}
-use Rattle.cayley.proofs.Algebra.RowDependencies.{zero-at}
 use Rattle.cayley.proofs.Order.Lines.{Line, line_at}
-use Rattle.cayley.proofs.OneCell.MovingNormals as laws
 use Rattle.cayley.proofs.OneCell.MovingNormals.{Moving, moving, wall, moving_gap, IsFrame}
-use Rattle.inner_normal.specs.MovingNormals.{values, IsAt, IsMovingNormal}
+use Rattle.inner_normal.specs.MovingNormals.{IsAt, IsMovingNormal}
 use Rattle.inner_normal.specs.declared.moving.MovingNormal.{MovingNormal}
 
 -- the same, in the words of the laws
 abbrev pub as_moving : (m : MovingNormal) → pos 0 <ℤ m.den → length m.p ≡ length m.q → Moving
 as_moving m positive long = record { den = m.den; positive = positive; starts = m.p; slopes = m.q; long = long }
-
-values_same : (t : Time) (ps qs : List ℤ) → values t ps qs ≡ laws.values t ps qs
-values_same t [] qs = refl
-values_same t (p ∷ ps) [] = refl
-values_same t (p ∷ ps) (q ∷ qs) = ap (λ (l : List (List ℤ)). add ((t.over *ℤ p) ∷ []) (scale q t.entries) ∷ l) (values_same t ps qs)
 
 abbrev time_one : Time
 time_one = record { entries = pos 1 ∷ []; over = pos 1; positive = record { lt = tt } }
@@ -34,7 +27,7 @@ line_entry l t e = at-add (scale t.over l.start) (scale l.slope t.entries) e ∙
 -- a line that is zero at the times 0 and 1
 flat_line : (l : Line) → ((e : ℕ) → at (line_at l time_zero) e ≡ pos 0) → ((e : ℕ) → at (line_at l time_one) e ≡ pos 0) → IsZero l.start × (l.slope ≡ pos 0)
 flat_line l f g = (
-  zero-at l.start starts,
+  zero_from l.start starts,
   (let s = starts 0 in let q : pos 1 *ℤ at l.start 0 +ℤ l.slope *ℤ pos 1 ≡ pos 0 = sym (line_entry l time_one 0) ∙ g 0 in omega (arith, ints, q, s)),
 )
   where
@@ -46,7 +39,7 @@ module _ (m : MovingNormal) (positive : pos 0 <ℤ m.den) (long : length m.p ≡
   unfolding moving
   same_gap t v h x y =
       ap₂ (λ (o : ℤ) (es : List (List ℤ)). add (scale t.over (comb (sub y.coordinates x.coordinates) es)) (scale o (sub (height t y) (height t x))))
-      (h.0 ∙ *ℤ_comm t.over m.den) (h.1 ∙ values_same t m.p m.q)
+      (h.0 ∙ *ℤ_comm t.over m.den) (h.1)
 
   -- where the gap is zero at a time written over 1, the line is
   line_zero : (t : Time) → t.over ≡ pos 1 → (v : Normal) → IsAt m t v → (x y : Point) → IsZero (gap t v x y) → (e : ℕ) → at (line_at (wall (as_moving m positive long) x y) t) e ≡ pos 0

@@ -1,23 +1,15 @@
 -- what the answers say of the working and of the cell
-use Rattle.std.proofs.Common.{◌≡◌, ◌↔◌, suc, ◌+◌, List, ℤ, Result, Ok, Err, IfOk, IfErr, MatchResult, length, sym, ap, subst, ◌∙◌}
-use Rattle.reduced_rows.specs.declared.faults.CellFault.{CellFault}
-use Rattle.reduced_rows.specs.declared.faults.CellFault.TheVariants.{Overflow, Dependent, OutOfMemory}
-use Rattle.reduced_rows.specs.Steps.{FitsElimination}
-use Rattle.reduced_rows.specs.CellRefusals.{IsEliminated, IsCellFault, OnDependent, HasAnswer, IsCellDependent, CellOverflowExactly}
-use Rattle.reduced_rows.proofs.Outcome.{reduced_means}
+use Rattle.std.proofs.Common.{◌≡◌, List, ℤ, length, sym, ap, subst, ◌∙◌}
+use Rattle.reduced_rows.specs.CellRefusals.{IsEliminated}
 use Rattle.cayley.specs.Problems.{Problem, IsProblem}
-use Rattle.cayley.specs.Cells.{Cell, IsOf, IsIndependent, IsCellKernel}
+use Rattle.cayley.specs.Cells.{Cell, IsOf}
 use Rattle.cayley.specs.Rows.{edge_rows}
-use Rattle.cayley.proofs.OneCell.CellRows.{rows_independent, rows_count, rows_width}
 use Rattle.inner_normal.proofs.CellAnswers.{beyond_rows}
 use Rattle.inner_normal.proofs.Meaning.{reduced_of}
 use Rattle.inner_normal.specs.declared.moving.MovingNormal.{MovingNormal}
 use Rattle.inner_normal.specs.Workings.{denominator, FitsNormal, IsNormalFrom}
 use Rattle.reduced_rows.specs.Denominators.{shares}
 use Rattle.cone_walls.specs.Workings.{normal_of_rows, FitsWalls, FitsCircuits, FitsRest, FitsWallWorking}
-
-pub rest_fits : (p : Problem) (cell : Cell) (made : List (List ℤ)) → IsEliminated p.dimension (edge_rows p cell) made → FitsWallWorking p cell → FitsRest p cell made
-rest_fits p cell made e f = f.1 made e.1
 
 pub working_fits : (p : Problem) (cell : Cell) (made : List (List ℤ)) → IsEliminated p.dimension (edge_rows p cell) made → FitsRest p cell made → FitsWallWorking p cell
 working_fits p cell made e r = beyond_rows p.dimension (edge_rows p cell) made (FitsRest p cell) e r

@@ -1,7 +1,6 @@
 -- one more line, and the lines of one more support
 use Rattle.std.proofs.Common.{◌≡◌, ◌↔◌, ℕ, zero, suc, ◌+◌, ◌-◌, ◌<◌, ◌≤◌, Bool, true, false, if◌then◌else◌, ◌==◌, List, [], ◌∷◌, ◌++◌, length, drop, get_or, drop-cons, add-one, drop_of_length-le, append_assoc, append-nil, arith, refl, sym, ap, ap₂, subst, ◌∙◌}
 use Rattle.std.specs.Prelude.{All}
-use native.Mathlib.Decide.{dec_le}
 use Rattle.reduced_rows.specs.declared.faults.FromFault.{FromFault}
 use Rattle.reduced_rows.specs.declared.faults.FromFault.TheVariants.{Overflow, OutOfMemory}
 use Rattle.reduced_rows.specs.Refusals.{IsFromFault}
@@ -11,14 +10,11 @@ use Rattle.cayley.specs.Valid.{IsValidProblem, support_at}
 use Rattle.crossing.specs.declared.line.WallLine.{WallLine}
 use Rattle.inner_normal.specs.declared.moving.MovingNormal.{MovingNormal}
 use Rattle.cone_walls.specs.Listed.{line_of, one_line, lines_from, support_lines, wall_lines}
-use Rattle.cone_walls.specs.Workings.{FitsPoint, FitsSupport, FitsWalls}
+use Rattle.cone_walls.specs.Workings.{FitsSupport, FitsWalls}
 
 pub all_one : {A : Type 0} (P : A → Type 0) (x : A) → P x → All P (x ∷ [])
 all_one P x h zero d l = h
 all_one P x h (suc k) d l = absurd (omega arith)
-
-pub all_none : {A : Type 0} (P : A → Type 0) (xs : List A) → xs ≡ [] → All P xs
-all_none P xs e = subst (All P) (sym e) (λ k d l. absurd (omega arith))
 
 pub fault_by : (F G : Type 0) → (G → F) → (fault : FromFault) → IsFromFault F fault → IsFromFault G fault
 fault_by F G f Overflow n = λ g. n (f g)
@@ -49,18 +45,6 @@ module _ (m : MovingNormal) (i : ℕ) (s : List Point) (a b : ℕ) where
 
   pub last_line : (k : ℕ) (old all : List WallLine) → length s ≤ k → old ++ lines_from m i (point_at s a) a b (k + 1) (drop k s) ≡ all → old ≡ all
   last_line k old all l e = sym (append-nil old) ∙ ap (λ (ys : List Point). old ++ lines_from m i (point_at s a) a b (k + 1) ys) (sym (drop_of_length-le s l)) ∙ e
-
-pub more_fit : (P : ℕ → Type 0) (k : ℕ) → ((c : ℕ) → c ≤ k → P c) → P (k + 1) → (c : ℕ) → c ≤ k + 1 → P c
-more_fit P k f p c h = elim (dec_le c k) [
-  | yes l ↦ f c l
-  | no n ↦ let e : k + 1 ≡ c = omega (arith, h, n) in subst P e p
-]
-
-pub no_point : (m : MovingNormal) (s : List Point) (a b : ℕ) (c : ℕ) → c ≤ 0 → FitsPoint m s a b c
-no_point m s a b c l f = let h = f.0 in absurd (omega (arith, l, h))
-
-pub all_fit : (m : MovingNormal) (s : List Point) (a b k : ℕ) → length s ≤ k → ((c : ℕ) → c ≤ k → FitsPoint m s a b c) → FitsSupport m s a b
-all_fit m s a b k l f c h = f c (let e = h.1 in omega (arith, e, l)) h
 
 -- ---- all supports
 pub pair_of : (P : List Point → ℕ → ℕ → Type 0) (supports : List (List Point)) (cell : Cell) (k : ℕ) → EachPair supports cell P → k < length cell

@@ -1,5 +1,5 @@
 -- no line of a cell that rests falls
-use Rattle.std.proofs.Common.{◌≡◌, inl, inr, ℕ, suc, ◌+◌, ◌-◌, ◌≤◌, List, [], ◌∷◌, length, take, drop, take-append-drop, ℤ, pos, ◌+ℤ◌, ◌-ℤ◌, ◌*ℤ◌, ◌<ℤ◌, ◌≤ℤ◌, arith, sym, ap, subst, ◌∙◌}
+use Rattle.std.proofs.Common.{◌≡◌, inl, inr, ℕ, suc, ◌+◌, ◌-◌, ◌≤◌, List, [], ◌∷◌, take, drop, take-append-drop, ℤ, pos, ◌+ℤ◌, ◌-ℤ◌, ◌*ℤ◌, ◌<ℤ◌, ◌≤ℤ◌, arith, sym, ap, subst, ◌∙◌}
 use Rattle.std.proofs.lemmas.Int.{ints}
 use Rattle.std.proofs.Math.IntN.{*ℤ_comm}
 use Rattle.std.specs.Prelude.{slice_index_or}
@@ -7,8 +7,8 @@ use Rattle.wide_int.proofs.Order.{mul_le_ℤ}
 use Rattle.int_vectors.specs.Vectors.{Each, sub, dot}
 use Rattle.cayley.specs.Problems.{Point, Problem, EachSupport, IsStill, point_at}
 use Rattle.cayley.specs.Cells.{Cell}
-use Rattle.cayley.specs.Dependencies.{support_at, pair_at, IsFurtherAt}
-use Rattle.cayley.specs.Valid.{IsValidProblem, IsMoving}
+use Rattle.cayley.specs.Dependencies.{pair_at, IsFurtherAt, nth_support}
+use Rattle.cayley.specs.Valid.{IsValidProblem}
 use Rattle.cayley.specs.Valid as valid
 use Rattle.cayley.proofs.Algebra.ScaledInverse.{dot-zero}
 use Rattle.cayley.proofs.Flipping.Places.{pairs_long, further_bound}
@@ -38,9 +38,6 @@ rest_more p cell pairs k same r h j lt = elim (below_next j k lt) [
       (subst (λ (c : Cell). (point_at (valid.support_at p (k + 1)) (slice_index_or c k (0, 0)).0).speed ≡ pos 0) same h)
 ]
 
-pub rest_end : (p : Problem) (cell pairs : Cell) (k : ℕ) → pairs ≡ cell → length pairs ≤ k → RestUpTo p cell k → RestUpTo p cell (length cell)
-rest_end p cell pairs k same le r j lt = let e = ap length same in r j (omega (arith, le, lt, e))
-
 -- ---- speeds
 slow_support : (f : ℕ) (s : List Point) → Each (take f s) (λ x. x.speed ≡ pos 0) → Each (drop f s) (λ x. x.speed ≡ pos 1) → Each s (λ x. pos 0 ≤ℤ x.speed)
 slow_support f s h k =
@@ -66,20 +63,20 @@ level_or_rising g a c d pg ea pc ed q =
     omega (arith, ints, m, n, ed)
 
 module _ (p : Problem) (cell : Cell) (m : MovingNormal) (n : IsMovingNormal p cell m) (well : IsValidProblem p) (still : IsStill p) (rests : IsResting p cell m) where
-  not_falling : (j c : ℕ) → IsFurtherAt p cell j c → ¬ (beta m (point_at (support_at p.supports j) (pair_at cell j).0) (point_at (support_at p.supports j) c) <ℤ pos 0)
+  not_falling : (j c : ℕ) → IsFurtherAt p cell j c → ¬ (beta m (point_at (nth_support p.supports j) (pair_at cell j).0) (point_at (nth_support p.supports j) c) <ℤ pos 0)
   not_falling j c f =
       let count = pairs_long p.supports cell InRange n.of in
       let bound = further_bound p.supports cell j c count f in
-      let read : slice_index_or p.supports (j + 1 - 1) [] ≡ support_at p.supports j =
+      let read : slice_index_or p.supports (j + 1 - 1) [] ≡ nth_support p.supports j =
       ap (λ z. slice_index_or p.supports z []) (let w : j + 1 - 1 ≡ j = omega arith in w) ∙ support_read p.supports j in
-      let first : (point_at (support_at p.supports j) (pair_at cell j).0).speed ≡ pos 0 =
+      let first : (point_at (nth_support p.supports j) (pair_at cell j).0).speed ≡ pos 0 =
       subst (λ (s : List Point). (point_at s (pair_at cell j).0).speed ≡ pos 0) read
       (subst (λ (x : ℕ × ℕ). (point_at (slice_index_or p.supports (j + 1 - 1) []) x.0).speed ≡ pos 0) (pair_read cell j (0, 0) (omega (arith, bound))) (rests.1 j (omega (arith, bound)))) in
       let slow = each_support_at (λ s. Each s (λ (x : Point). pos 0 ≤ℤ x.speed)) p.supports j (omega (arith, bound, count)) (slow_supports 1 p.files p.supports still well.shape.moving) in
-      level_or_rising m.den (point_at (support_at p.supports j) (pair_at cell j).0).speed (point_at (support_at p.supports j) c).speed
-      (dot (sub (point_at (support_at p.supports j) c).coordinates (point_at (support_at p.supports j) (pair_at cell j).0).coordinates) m.q)
-      n.positive first (each_position (λ (x : Point). pos 0 ≤ℤ x.speed) (support_at p.supports j) c f.0 f.1 slow)
-      (dot-zero (sub (point_at (support_at p.supports j) c).coordinates (point_at (support_at p.supports j) (pair_at cell j).0).coordinates) m.q rests.0)
+      level_or_rising m.den (point_at (nth_support p.supports j) (pair_at cell j).0).speed (point_at (nth_support p.supports j) c).speed
+      (dot (sub (point_at (nth_support p.supports j) c).coordinates (point_at (nth_support p.supports j) (pair_at cell j).0).coordinates) m.q)
+      n.positive first (each_position (λ (x : Point). pos 0 ≤ℤ x.speed) (nth_support p.supports j) c f.0 f.1 slow)
+      (dot-zero (sub (point_at (nth_support p.supports j) c).coordinates (point_at (nth_support p.supports j) (pair_at cell j).0).coordinates) m.q rests.0)
 
   none_falls : Each (wall_lines m 1 p.supports cell) (λ l. ¬ (Falls l))
   none_falls = all_lines m (λ l. ¬ (Falls l)) 1 p.supports cell (λ j k c e f. not_falling j c f)

@@ -1,11 +1,10 @@
 -- the ranks of a problem rise with support and position
 use Rattle.std.proofs.Common.{◌≡◌, ◌≢◌, ◌⊎◌, inl, inr, ℕ, zero, suc, ◌+◌, ◌-◌, ◌<◌, ◌≤◌, ◌==◌, min, Bool, true, false, if◌then◌else◌, List, [], ◌∷◌, length, map, arith, refl, sym, ap, subst, ◌∙◌}
-use Rattle.std.proofs.lemmas.Bool.{ne_eqb, eq-eqb, eqb-true}
+use Rattle.std.proofs.lemmas.Bool.{eq-eqb, eqb-true}
 use Rattle.std.specs.Prelude.{slice_index_or}
-use Rattle.cayley.specs.Problems.{Version, Point, Problem, origin, point_at, EachSupport, HasCorners, with_rank, is_start_corner, numbered, numbered_supports, ranks_in, ranked_supports, HasRanks}
+use Rattle.cayley.specs.Problems.{Version, Point, Problem, origin, EachSupport, HasCorners, with_rank, is_start_corner, numbered, numbered_supports, ranks_in, ranked_supports, HasRanks}
 use Rattle.cayley.specs.Problems.Version.{version1, version2}
-use Rattle.cayley.specs.Dependencies.{support_at}
-use Rattle.cayley.proofs.OneCell.Unperturbed.{unranked, point_unranked, support_unranked}
+use Rattle.cayley.proofs.OneCell.Unperturbed.{unranked}
 
 -- the rank at an index, which counts from 0
 abbrev pub rank_at : List Point → ℕ → ℕ

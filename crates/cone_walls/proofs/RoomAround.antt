@@ -1,12 +1,11 @@
 -- bounds on a normal leave room for the numbers of its wall lines
-use Rattle.std.proofs.Common.{◌≡◌, ◌↔◌, ℕ, zero, suc, ◌+◌, ◌-◌, ◌*◌, ◌^◌, ◌<◌, ◌≤◌, ℤ, pos, ◌+ℤ◌, ◌-ℤ◌, ◌*ℤ◌, neg_ℤ, unsigned_abs, List, [], ◌∷◌, length, take, drop, arith, refl, sym, subst, ap, ap₂, ◌∙◌, take-append-drop}
+use Rattle.std.proofs.Common.{◌≡◌, ℕ, suc, ◌+◌, ◌-◌, ◌*◌, ◌^◌, ◌<◌, ◌≤◌, ℤ, pos, ◌+ℤ◌, ◌-ℤ◌, ◌*ℤ◌, neg_ℤ, unsigned_abs, List, [], ◌∷◌, length, take, drop, arith, sym, subst, ap, ap₂, ◌∙◌, take-append-drop}
 use Rattle.std.proofs.lemmas.Int.{ints, unsigned_abs-mul}
 use Rattle.wide_int.specs.Whole.{FitsWhole}
 use Rattle.int_vectors.specs.Vectors.{Each, sub, dot}
-use Rattle.int_vectors.specs.Fits.{FitsDot, FitsSum}
+use Rattle.int_vectors.specs.Fits.{FitsSum}
 use Rattle.int_vectors.specs.Bounds.{size, Within, Room, IsNarrow}
-use Rattle.int_vectors.proofs.BoundSums.{abs_add, abs_sub, abs_dot, mul_le, room_fits}
-use Rattle.int_vectors.proofs.BoundRows.{within_weaker}
+use Rattle.int_vectors.proofs.BoundSums.{abs_add, abs_sub, abs_dot, mul_le, room_fits, start_below}
 use Rattle.cayley.specs.Problems.{Point, Problem, EachSupport, point_at, with_rank}
 use Rattle.cayley.specs.Valid.{IsValidProblem, IsCornerCoordinate, IsHeight, IsWithinProblem, IsWithinCorners, IsCornerBase, support_at}
 use Rattle.cayley.specs.Reaches.{IsWithinReach}
@@ -81,12 +80,6 @@ wider start xs ys r = let h = r.2 in (r.0, r.1, step (unsigned_abs start) (size 
   where
     step : (a b : ℕ) → a + b < 2 ^ 62 → a + b < 2 ^ 127
     step a b h = omega (arith, h)
-
-pub start_below : (m : ℕ) (start : ℤ) (xs ys : List ℤ) → Room m start xs ys → unsigned_abs start < m
-start_below m start xs ys r = step (unsigned_abs start) (size xs * r.0) m r.2
-  where
-    step : (a b m : ℕ) → a + b < m → a < m
-    step a b m h = omega (arith, h)
 
 pub end_below : (m : ℕ) (start : ℤ) (xs ys : List ℤ) → Room m start xs ys → unsigned_abs (start +ℤ dot xs ys) < m
 end_below m start xs ys r = step (unsigned_abs start) (size xs * r.0) (unsigned_abs (dot xs ys)) (unsigned_abs (start +ℤ dot xs ys)) m r.2 (abs_dot r.0 xs ys r.1) (abs_add start (dot xs ys))

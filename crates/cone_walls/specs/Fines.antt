@@ -5,7 +5,7 @@ use Rattle.lex_height.specs.Entries.{entry}
 use Rattle.lex_height.specs.Values.{AreParts}
 use Rattle.cayley.specs.Problems.{Problem, Point, point_at}
 use Rattle.cayley.specs.Cells.{Cell}
-use Rattle.cayley.specs.Dependencies.{Numbers, support_at, total}
+use Rattle.cayley.specs.Dependencies.{Numbers, total, nth_support}
 use Rattle.cayley.specs.Normals.{mark}
 use Rattle.crossing.specs.declared.line.WallLine.{WallLine}
 use Rattle.inner_normal.specs.Coefficients.{difference, coefficients_of, numbers_of}
@@ -27,5 +27,5 @@ sum_of_rank numbers p cell c rank = total numbers.pairs p.supports cell (has_ran
 abbrev pub HasFine : Problem → Cell → List (List ℤ) → WallLine → Type 0
 HasFine p cell made line =
     let j = line.support - 1 in
-    let c = point_at (support_at p.supports j) line.position in
+    let c = point_at (nth_support p.supports j) line.position in
     AreParts 1 line.fine × ((rank : ℕ) → entry line.fine rank ≡ sum_of_rank (circuit_of p cell made j line.position) p cell c rank)

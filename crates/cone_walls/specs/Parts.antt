@@ -5,18 +5,15 @@ use Rattle.lex_height.specs.Entries.{entry}
 use Rattle.lex_height.specs.Values.{AreParts}
 use Rattle.cayley.specs.Problems.{Point, Problem, point_at}
 use Rattle.cayley.specs.Cells.{Cell}
-use Rattle.cayley.specs.Dependencies.{support_at, IsFurtherAt}
+use Rattle.cayley.specs.Dependencies.{IsFurtherAt, nth_support}
 use Rattle.crossing.specs.declared.line.WallLine.{WallLine}
 use Rattle.crossing.specs.declared.fine.TheConstants.{FINE_PARTS}
 use Rattle.crossing.specs.Lines.{FitsLine}
 use Rattle.inner_normal.specs.Coefficients.{difference, coefficients_of, numbers_of, FitsCoefficients}
 use Rattle.inner_normal.specs.Inverses.{Inverse}
+use Rattle.inner_normal.specs.RankedNumbers.{Ranked, ranked}
 use Rattle.cone_walls.specs.Fines.{sum_of_rank}
 use Rattle.cone_walls.specs.Listed.{coarse}
-
--- a rank and the number of a point that has it
-abbrev pub Ranked : Type 0
-Ranked = ℕ × ℤ
 
 -- the part of a point, unless its rank or its number is 0
 abbrev pub part_of : ℕ → ℤ → List LexPart
@@ -28,9 +25,6 @@ part_of (suc rank) (negsuc n) = record { rank = suc rank; num = negsuc n } ∷ [
 abbrev pub parts_of : List Ranked → List LexPart
 parts_of [] = []
 parts_of (x ∷ xs) = part_of x.0 x.1 ++ parts_of xs
-
-abbrev pub ranked : List Point → ℕ → ℤ → Ranked
-ranked s position number = ((point_at s position).rank, number)
 
 -- the two points of a pair with their numbers
 abbrev pub two_points : List Point → ℕ × ℕ → ℤ × ℤ → List Ranked
@@ -58,7 +52,7 @@ all_points i j c last (m ∷ ms) (s ∷ supports) (x ∷ cell) = points_in i j c
 pub record IsFineOf (p : Problem) (cell : Cell) (inverse : Inverse) (j c : ℕ) (fine : List LexPart) : Type 0 where
   pub few : length fine ≤ FINE_PARTS
   pub parts : AreParts 1 fine
-  pub sum : (rank : ℕ) → entry fine rank ≡ sum_of_rank (numbers_of (coefficients_of j inverse (difference p cell j c))) p cell (point_at (support_at p.supports j) c) rank
+  pub sum : (rank : ℕ) → entry fine rank ≡ sum_of_rank (numbers_of (coefficients_of j inverse (difference p cell j c))) p cell (point_at (nth_support p.supports j) c) rank
 
 -- a line of a further point; supports count from 1
 abbrev pub IsFurtherLine : Problem → Cell → WallLine → Type 0

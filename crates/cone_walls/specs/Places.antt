@@ -3,7 +3,7 @@ use Rattle.std.specs.Prelude.{◌≡◌, ◌⊎◌, ◌↔◌, ℕ, ◌-◌, ◌
 use Rattle.int_vectors.specs.Vectors.{Each}
 use Rattle.cayley.specs.Problems.{Problem, point_at}
 use Rattle.cayley.specs.Cells.{Cell}
-use Rattle.cayley.specs.Dependencies.{support_at, pair_at, IsFurtherAt}
+use Rattle.cayley.specs.Dependencies.{pair_at, IsFurtherAt, nth_support}
 use Rattle.crossing.specs.declared.line.WallLine.{WallLine}
 use Rattle.inner_normal.specs.declared.moving.MovingNormal.{MovingNormal}
 use Rattle.cone_walls.specs.Numbers.{alpha, beta}
@@ -28,7 +28,7 @@ AreOfFurtherPoints p cell lines = AreInOrder lines × ((j c : ℕ) → HasLine l
 -- the line's numbers are those of its point against the first point of its support's pair
 abbrev pub HasNumbers : Problem → Cell → MovingNormal → WallLine → Type 0
 HasNumbers p cell m line =
-    let s = support_at p.supports (line.support - 1) in
+    let s = nth_support p.supports (line.support - 1) in
     let a = point_at s (pair_at cell (line.support - 1)).0 in
     let c = point_at s line.position in
     (line.alpha ≡ alpha m a c) × (line.beta ≡ beta m a c)

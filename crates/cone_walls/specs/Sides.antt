@@ -4,7 +4,7 @@ use Rattle.int_vectors.specs.Vectors.{Each, IsZero, IsPositive}
 use Rattle.cayley.specs.Times.{Time}
 use Rattle.cayley.specs.Problems.{Problem}
 use Rattle.cayley.specs.Cells.{Cell}
-use Rattle.cayley.specs.Dependencies.{support_at, pair_at, minus}
+use Rattle.cayley.specs.Dependencies.{pair_at, minus, nth_support}
 use Rattle.cayley.specs.Normals.{Normal, IsNormal, IsAbove, IsLevel, IsBelow}
 use Rattle.crossing.specs.declared.line.WallLine.{WallLine}
 use Rattle.crossing.specs.Lines.{value}
@@ -12,7 +12,7 @@ use Rattle.crossing.specs.Lines.{value}
 -- positive, zero, negative exactly where the line's point is above, level, below
 abbrev pub TellsSide : Problem → Cell → Time → Normal → WallLine → Type 0
 TellsSide p cell t v line =
-    let s = support_at p.supports (line.support - 1) in
+    let s = nth_support p.supports (line.support - 1) in
     let a = (pair_at cell (line.support - 1)).0 in
     (IsPositive (value line t.entries t.over) ↔ IsAbove t v s a line.position)
     × (IsZero (value line t.entries t.over) ↔ IsLevel t v s a line.position)
@@ -33,7 +33,7 @@ coarse_value line P Q = line.alpha *ℤ Q +ℤ line.beta *ℤ P
 -- the same at a time P / Q by this number, over heights without infinitesimals
 abbrev pub TellsSideAt : Problem → Cell → (P Q : ℤ) → pos 0 <ℤ Q → Normal → WallLine → Type 0
 TellsSideAt p cell P Q positive v line =
-    let s = support_at p.supports (line.support - 1) in
+    let s = nth_support p.supports (line.support - 1) in
     let a = (pair_at cell (line.support - 1)).0 in
     let t = moment P Q positive in
     (pos 0 <ℤ coarse_value line P Q ↔ IsAbove t v s a line.position)

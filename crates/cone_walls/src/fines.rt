@@ -9,7 +9,6 @@ ghost use Rattle.cayley.specs.Rows.{edge_rows};
 ghost use Rattle.cayley.specs.Valid.{support_at};
 ghost use Rattle.crossing.specs.Lines.{FitsLine};
 ghost use Rattle.inner_normal.specs.Coefficients.{difference, FitsCoefficients, pairs_of};
-ghost use Rattle.inner_normal.specs.Inverses.{IsInverseOf};
 ghost use Rattle.reduced_rows.specs.CellRefusals.{IsEliminated};
 ghost use Rattle.reduced_rows.specs.Refusals.{IsFromFault};
 ghost use Rattle.cone_walls.specs.Fines.{HasFine};
@@ -21,7 +20,7 @@ ghost use Rattle.cone_walls.specs.Workings.{FitsCircuits};
 
 use cayley::{Cell, Problem};
 use crossing::{Fine, WallLine};
-use inner_normal::{Eliminated, ScaledInverse, coefficients_at};
+use inner_normal::{Eliminated, ScaledInverse, coefficients_by};
 use int_vectors::IntVec;
 use lex_height::LexPart;
 use reduced_rows::FromFault;
@@ -187,12 +186,13 @@ fn fine_of(
 ) -> Result<Fine, FromFault>
     requires cell { IsOf problem.now cell.now }
     requires point { (1 ≤ support) × (support ≤ problem.now.dimension) × IsFurtherAt problem.now cell.now (support - 1) position }
-    requires inverse { IsInverseOf problem.now cell.now inverse.now }
+    requires count { length inverse.now.columns ≡ problem.now.dimension }
+    requires columns { Each inverse.now.columns (λ column. length column ≡ problem.now.dimension) }
     ensures { let fits = FitsCoefficients (support - 1) inverse.now (difference problem.now cell.now (support - 1) position) in MatchResult result
         (λ fine. fits × IsFineOf problem.now cell.now inverse.now (support - 1) position fine)
         (IsFromFault fits) }
 {
-    let numbers = coefficients_at(alloc, problem, cell, inverse, support, position)?;
+    let numbers = coefficients_by(alloc, problem, cell, inverse, support, position)?;
     // Its numbers fit, as its reader tells.
     let _entries = numbers.as_slice();
     let last = inverse.den();
@@ -210,7 +210,8 @@ fn refined(
 ) -> Result<WallLine, FromFault>
     requires cell { IsOf problem.now cell.now }
     requires point { IsFurtherLine problem.now cell.now line }
-    requires inverse { IsInverseOf problem.now cell.now inverse.now }
+    requires count { length inverse.now.columns ≡ problem.now.dimension }
+    requires columns { Each inverse.now.columns (λ column. length column ≡ problem.now.dimension) }
     requires fit { FitsLine line }
     ensures { let fits = FitsCircuitOf problem.now cell.now inverse.now line in MatchResult result
         (λ made. fits × IsRefined problem.now cell.now inverse.now line made)
@@ -226,8 +227,10 @@ fn refined(
     })
 }
 
-// The lines with their infinitesimals.
-fn refine_all(
+/// Lines of further points with their infinitesimals, by square columns over a number: those of the
+/// points' ranks in the numbers that these columns give. It isn't tested that the columns are the
+/// inverse of the cell. `Overflow` exactly where a number of some line's point doesn't fit.
+pub fn refine_all(
     alloc: Global,
     problem: &Problem,
     cell: &Cell,
@@ -236,7 +239,8 @@ fn refine_all(
 ) -> Result<Vec<WallLine>, FromFault>
     requires cell { IsOf problem.now cell.now }
     requires points { Each lines.items (IsFurtherLine problem.now cell.now) }
-    requires inverse { IsInverseOf problem.now cell.now inverse.now }
+    requires count { length inverse.now.columns ≡ problem.now.dimension }
+    requires columns { Each inverse.now.columns (λ column. length column ≡ problem.now.dimension) }
     requires fit { All FitsLine lines.items }
     ensures { let fits = Each lines.items (FitsCircuitOf problem.now cell.now inverse.now) in MatchResult result
         (λ made. fits × AreRefined problem.now cell.now inverse.now lines.items made.items)

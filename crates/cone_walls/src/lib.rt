@@ -16,7 +16,9 @@ mod walls;
 
 pub use crossing::{Fine, WallLine};
 pub use endings::{End, end_of};
+pub use fines::refine_all;
 pub use inner_normal::MovingNormal;
+pub use lines::lines_of;
 pub use reduced_rows::{CellFault, Reduced};
 pub use steps::Steps;
 pub use walls::{Walls, walls_of};

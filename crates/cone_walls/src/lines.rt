@@ -223,8 +223,10 @@ fn lines_within(
     Ok(lines)
 }
 
-// The lines of all further points.
-pub(crate) fn lines_of(
+/// The lines of all further points under a normal, in order of support and position, with no
+/// infinitesimals. It isn't tested that the normal is the cell's. `Overflow` exactly where a number
+/// of a line doesn't fit.
+pub fn lines_of(
     alloc: Global,
     problem: &Problem,
     cell: &Cell,

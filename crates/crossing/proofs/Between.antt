@@ -4,6 +4,7 @@ use Rattle.std.proofs.lemmas.Int.{ints}
 use Rattle.std.proofs.lemmas.List.{get_or_default}
 use Rattle.wide_int.proofs.Order.{sign_cases}
 use Rattle.int_vectors.specs.Vectors.{IsZero, IsPositive, scale, at}
+use Rattle.int_vectors.proofs.Entries.{not_zero, at-scale}
 use Rattle.lex_height.specs.Entries.{entries}
 use Rattle.lex_height.specs.Values as lex
 use Rattle.lex_height.specs.Order.{IsLess}
@@ -20,7 +21,7 @@ use Rattle.crossing.specs.Leading.{start, nth}
 use Rattle.crossing.specs.Entries.{RisesAt, IsGreatestRise, LiveSometime, IsEntry}
 use Rattle.crossing.specs.Exits.{FallsAt, IsLeastFall, IsExit}
 use Rattle.crossing.specs.Between.{IsAfterEntry, IsBeforeExit, PositiveBetween}
-use Rattle.crossing.proofs.Lists.{at-scale, earlier_less, less_earlier, either, not_zero}
+use Rattle.crossing.proofs.Lists.{earlier_less, less_earlier, either}
 use Rattle.crossing.proofs.Values.{turn, ratio_zero, ratio_positive, zero_later, less_level, turned_less, less_turn, level_start, level_value}
 use Rattle.crossing.proofs.Once.{has_at}
 

@@ -4,6 +4,7 @@ use Rattle.std.proofs.lemmas.Int.{ints}
 use Rattle.std.proofs.lemmas.List.{get_or_default}
 use Rattle.wide_int.proofs.Order.{sign_cases}
 use Rattle.wide_int.proofs.Ring.{as_D, Ds, same_D}
+use Rattle.wide_int.proofs.Bools.{some_is}
 use Rattle.int_vectors.specs.Vectors.{IsPositive, scale, add, at}
 use Rattle.lex_height.specs.Entries.{entries}
 use Rattle.lex_height.specs.Values as lex
@@ -22,7 +23,7 @@ use Rattle.crossing.specs.Found.{IsLow, RisesFirst, IsOpenBetween, IsOpen}
 use Rattle.crossing.proofs.Lists.{at-sum, positive_from, positive_stable, earlier_less}
 use Rattle.crossing.proofs.Values.{turn, value_at, positive_ratio, double_neg, less_turn, level_start, level_value}
 use Rattle.crossing.proofs.Once.{time_once, first_once, only_once, one_or_two, second_once}
-use Rattle.crossing.proofs.Found.{none_goes, first_goes, all_positive, zero_first, one_only, two_first, nothing, the_one}
+use Rattle.crossing.proofs.Found.{none_goes, first_goes, all_positive, zero_first, one_only, two_first, nothing}
 
 -- ---- dead
 pub low_dead : (lines : List WallLine) (k : ℕ) → k < length lines → IsLow (nth lines k) → ¬ (LiveSometime lines)
@@ -122,7 +123,7 @@ module _ (lines : List WallLine) (rising falling : Leaders) (rise : IsLed Rising
         x.beta,
         g,
         positive_at_all t x.beta g low
-            (λ i e. subst (λ j. IsPositive (value (nth lines j) t x.beta)) (the_one a i (sym er ∙ e)) (after_rise x g))
+            (λ i e. subst (λ j. IsPositive (value (nth lines j) t x.beta)) (some_is a i (sym er ∙ e)) (after_rise x g))
             (λ i e. absurd (nothing i (sym ef ∙ e))),
       )
   live_by None (Some b) er ef low open_ =
@@ -134,7 +135,7 @@ module _ (lines : List WallLine) (rising falling : Leaders) (rise : IsLed Rising
         g,
         positive_at_all t (neg_ℤ y.beta) g low
             (λ i e. absurd (nothing i (sym er ∙ e)))
-            (λ i e. subst (λ j. IsPositive (value (nth lines j) t (neg_ℤ y.beta))) (the_one b i (sym ef ∙ e)) (before_fall y g)),
+            (λ i e. subst (λ j. IsPositive (value (nth lines j) t (neg_ℤ y.beta))) (some_is b i (sym ef ∙ e)) (before_fall y g)),
       )
   live_by (Some a) (Some b) er ef low open_ =
       let x = nth lines a in
@@ -146,8 +147,8 @@ module _ (lines : List WallLine) (rising falling : Leaders) (rise : IsLed Rising
         x.beta -ℤ y.beta,
         q,
         positive_at_all (meeting x y) (x.beta -ℤ y.beta) q low
-            (λ i e. subst (λ j. IsPositive (value (nth lines j) (meeting x y) (x.beta -ℤ y.beta))) (the_one a i (sym er ∙ e)) (between_rise x y open_))
-            (λ i e. subst (λ j. IsPositive (value (nth lines j) (meeting x y) (x.beta -ℤ y.beta))) (the_one b i (sym ef ∙ e)) (between_fall x y open_)),
+            (λ i e. subst (λ j. IsPositive (value (nth lines j) (meeting x y) (x.beta -ℤ y.beta))) (some_is a i (sym er ∙ e)) (between_rise x y open_))
+            (λ i e. subst (λ j. IsPositive (value (nth lines j) (meeting x y) (x.beta -ℤ y.beta))) (some_is b i (sym ef ∙ e)) (between_fall x y open_)),
       )
 
   pub live_open : ((k : ℕ) → k < length lines → ¬ (IsLow (nth lines k))) → IsOpen lines rising falling → LiveSometime lines

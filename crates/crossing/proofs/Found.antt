@@ -1,5 +1,6 @@
 -- the answers of the leaders as ends
-use Rattle.std.proofs.Common.{◌≡◌, ◌≢◌, ℕ, ◌+◌, ◌-◌, ◌<◌, pos, ◌<ℤ◌, List, length, Some, None, unwrap_or, is_some, true≢false, ℤ, refl, sym, ap, subst, arith, inl, inr}
+use Rattle.std.proofs.Common.{◌≡◌, ◌≢◌, ℕ, ◌+◌, ◌-◌, ◌<◌, pos, ◌<ℤ◌, List, length, Some, None, is_some, true≢false, ℤ, refl, sym, ap, subst, arith, inl, inr}
+use Rattle.wide_int.proofs.Bools.{some_is}
 use Rattle.int_vectors.specs.Vectors.{IsZero, IsPositive, at}
 use Rattle.lex_height.specs.Entries.{entries}
 use Rattle.lex_height.specs.Order.{IsLess}
@@ -23,28 +24,25 @@ GoesAt way t line = Goes way line × IsZeroAt line t
 pub nothing : (a : ℕ) → None ≡ Some a → ⊥
 nothing a e = true≢false (sym (ap is_some e))
 
-pub the_one : (b a : ℕ) → Some b ≡ Some a → b ≡ a
-the_one b a e = ap (λ o. unwrap_or o 0) e
-
 module _ (way : Way) (lines : List WallLine) where
   pub none_goes : IsLed way lines (length lines) led.None → IsNowhere (Goes way) lines
   none_goes h place p = h (place - 1) (let a = p.0 in let b = p.1 in omega arith) p.2
 
   pub first_goes : (l : Leaders) (a : ℕ) → first_of l ≡ Some a → IsLed way lines (length lines) l → (a < length lines) × Goes way (nth lines a)
   first_goes led.None a e h = absurd (nothing a e)
-  first_goes (led.One b) a e h = subst (λ j. (j < length lines) × Goes way (nth lines j)) (the_one b a e) (h.0, h.1)
-  first_goes (led.Two b d) a e h = subst (λ j. (j < length lines) × Goes way (nth lines j)) (the_one b a e) ((let x = h.0 in let y = h.1 in omega arith), h.2)
+  first_goes (led.One b) a e h = subst (λ j. (j < length lines) × Goes way (nth lines j)) (some_is b a e) (h.0, h.1)
+  first_goes (led.Two b d) a e h = subst (λ j. (j < length lines) × Goes way (nth lines j)) (some_is b a e) ((let x = h.0 in let y = h.1 in omega arith), h.2)
 
   -- no line goes before the first leader
   pub none_before : (l : Leaders) (a : ℕ) → first_of l ≡ Some a → IsLed way lines (length lines) l → (k : ℕ) → k < length lines → Goes way (nth lines k) → ¬ (IsBefore way (nth lines k) (nth lines a))
   none_before led.None a e h k lt g = absurd (nothing a e)
-  none_before (led.One b) a e h k lt g = subst (λ j. ¬ (IsBefore way (nth lines k) (nth lines j))) (the_one b a e) (
+  none_before (led.One b) a e h k lt g = subst (λ j. ¬ (IsBefore way (nth lines k) (nth lines j))) (some_is b a e) (
       λ f. elim (same_or_not k b) [
         | inl s ↦ not_below_itself (start (nth lines b)) (steep way (nth lines b)) (subst (λ j. IsBefore way (nth lines j) (nth lines b)) s f)
         | inr o ↦ less_not_back (start (nth lines b)) (steep way (nth lines b)) (start (nth lines k)) (steep way (nth lines k)) h.1 g (h.2 k lt g o) f
       ]
       )
-  none_before (led.Two b d) a e h k lt g = subst (λ j. ¬ (IsBefore way (nth lines k) (nth lines j))) (the_one b a e) (h.6 k lt g)
+  none_before (led.Two b d) a e h k lt g = subst (λ j. ¬ (IsBefore way (nth lines k) (nth lines j))) (some_is b a e) (h.6 k lt g)
 
   -- where the first leader is positive, so are all lines of this way
   pub all_positive : (l : Leaders) → IsLed way lines (length lines) l → (p : List ℤ) (q : ℤ) → pos 0 <ℤ q → ((a : ℕ) → first_of l ≡ Some a → IsPositive (value (nth lines a) p q))

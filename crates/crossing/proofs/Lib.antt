@@ -1,13 +1,13 @@
 pub mod Between
-pub mod EntryRule
+mod EntryRule
 pub mod ExitRule
-pub mod Found
+mod Found
 pub mod Leading
 pub mod Lists
 pub mod Once
 pub mod Parts
 pub mod Values
-pub mod OneWay
-pub mod SpanEnds
-pub mod TieRule
-pub mod TieSteps
+mod OneWay
+mod SpanEnds
+mod TieRule
+mod TieSteps

@@ -1,25 +1,15 @@
 -- lists of entries, and their entries by rank
-use Rattle.std.proofs.Common.{◌≡◌, ◌⊎◌, inl, inr, ℕ, zero, suc, ◌<◌, List, [], ◌∷◌, length, arith, refl, sym, ap₂, ◌∙◌, ◌<ℤ◌}
+use Rattle.std.proofs.Common.{◌≡◌, ◌⊎◌, inl, inr, ℕ, zero, suc, ◌<◌, List, [], ◌∷◌, length, arith, refl, ap₂, ◌∙◌, ◌<ℤ◌}
 use Rattle.std.proofs.lemmas.Int.{ints}
-use Rattle.std.proofs.Math.IntN.{ℤ, pos, neg_ℤ, ◌+ℤ◌, ◌-ℤ◌, ◌*ℤ◌, +ℤ_idl, +ℤ_idr, *ℤ-zero}
+use Rattle.std.proofs.Math.IntN.{ℤ, pos, neg_ℤ, ◌+ℤ◌, ◌-ℤ◌, ◌*ℤ◌}
 use Rattle.wide_int.proofs.Ring.{as_D, Ds, same_D}
 use Rattle.wide_int.proofs.Order.{sign_cases}
 use Rattle.int_vectors.specs.Vectors.{IsZero, IsPositive, scale, add, at}
+use Rattle.int_vectors.proofs.Entries.{at-scale, at-add}
 use Rattle.lex_height.specs.Order.{IsLess, IsSame}
 use Rattle.lex_height.specs.Order as order
 use Rattle.lex_height.proofs.Signs.{has_sign, past_end}
 use Rattle.crossing.specs.Lines.{IsEarlier}
-
-pub at-scale : (k : ℤ) (u : List ℤ) (i : ℕ) → at (scale k u) i ≡ k *ℤ at u i
-at-scale k [] i = sym (*ℤ-zero k)
-at-scale k (x ∷ u) zero = refl
-at-scale k (x ∷ u) (suc i) = at-scale k u i
-
-pub at-add : (u v : List ℤ) (i : ℕ) → at (add u v) i ≡ at u i +ℤ at v i
-at-add [] v i = sym (+ℤ_idl (at v i))
-at-add (x ∷ u) [] i = sym (+ℤ_idr (at (x ∷ u) i))
-at-add (x ∷ u) (y ∷ v) zero = refl
-at-add (x ∷ u) (y ∷ v) (suc i) = at-add u v i
 
 pub at-sum : (j k : ℤ) (u v : List ℤ) (i : ℕ) → at (add (scale j u) (scale k v)) i ≡ j *ℤ at u i +ℤ k *ℤ at v i
 at-sum j k u v i = at-add (scale j u) (scale k v) i ∙ ap₂ ◌+ℤ◌ (at-scale j u i) (at-scale k v i)
@@ -29,10 +19,6 @@ pub zero_at : (u : List ℤ) → IsZero u → (k : ℕ) → at u k ≡ pos 0
 zero_at [] z k = refl
 zero_at (x ∷ u) z zero = z.0
 zero_at (x ∷ u) z (suc k) = zero_at u z.1 k
-
-pub zero_from : (u : List ℤ) → ((k : ℕ) → at u k ≡ pos 0) → IsZero u
-zero_from [] e = tt
-zero_from (x ∷ u) e = (e 0, zero_from u (λ k. e (suc k)))
 
 pub positive_at : (u : List ℤ) → IsPositive u → order.IsPositive (at u)
 positive_at [] p = absurd p
@@ -53,11 +39,6 @@ by_rank (x ∷ u) (suc r) p z = inr (z 0 (omega arith), by_rank u r p (λ k lt. 
 
 pub positive_from : (u : List ℤ) → order.IsPositive (at u) → IsPositive u
 positive_from u h = by_rank u h.0 h.1 h.2
-
-pub not_zero : (u : List ℤ) → IsPositive u → ¬ (IsZero u)
-not_zero [] p z = p
-not_zero (x ∷ u) (inl p) z = let e = z.0 in omega (arith, ints, p, e)
-not_zero (x ∷ u) (inr p) z = not_zero u p.1 z.1
 
 -- positive is decided
 pub positive_stable : (u : List ℤ) → ¬ (¬ (IsPositive u)) → IsPositive u

@@ -4,6 +4,7 @@ use Rattle.std.proofs.lemmas.Int.{ints}
 use Rattle.wide_int.proofs.Ring.{zero_mul_ℤ}
 use Rattle.wide_int.proofs.Order.{mul_cancel}
 use Rattle.int_vectors.specs.Vectors.{IsZero, IsPositive, at}
+use Rattle.int_vectors.proofs.Entries.{zero_from}
 use Rattle.lex_height.specs.Entries.{entries}
 use Rattle.lex_height.specs.Values as lex
 use Rattle.lex_height.specs.Order.{IsLess, IsSame}
@@ -17,7 +18,7 @@ use Rattle.crossing.specs.Lines.{constant, value, IsFlat, IsZeroAt}
 use Rattle.crossing.specs.Leading.{steep, start, Goes, IsLed, nth, first_of}
 use Rattle.crossing.specs.Ends.{led_by, IsSunk}
 use Rattle.crossing.specs.Ties.{IsNotNegative}
-use Rattle.crossing.proofs.Lists.{zero_at, zero_from, positive_at, positive_from, either}
+use Rattle.crossing.proofs.Lists.{zero_at, positive_at, positive_from, either}
 use Rattle.crossing.proofs.Values.{turn, value_at, value_is, zero_ratio, ratio_zero, positive_ratio, double_neg, level_start, level_value}
 use Rattle.crossing.proofs.Found.{first_goes, none_before}
 
@@ -168,6 +169,3 @@ zero_same way y g t q u p pq pp s z =
 pub turned_same : (w : ℕ → ℤ) (p : ℤ) (u : ℕ → ℤ) (q : ℤ) → IsSame (turn Rising w) p (turn Rising u) q → IsSame w p u q
 turned_same w p u q h =
     same_as (λ k. neg_ℤ (neg_ℤ (w k))) w (λ k. neg_ℤ (neg_ℤ (u k))) u p q (λ k. double_neg (w k)) (λ k. double_neg (u k)) (same_turned (turn Rising w) p (turn Rising u) q h)
-
-pub same_turn : (w : ℕ → ℤ) (p : ℤ) (u : ℕ → ℤ) (q : ℤ) → IsSame w p u q → IsSame (turn Rising w) p (turn Rising u) q
-same_turn w p u q h = same_turned w p u q h

@@ -250,13 +250,6 @@ module _ (f : LexPart → LexPart) where
   parts_next [] fine i d lt = let e : suc i ≡ i + 1 = omega arith in one_more fine i d lt ∙ ap (λ n. map f (take n fine)) e
   parts_next (part ∷ before) fine i d lt = ap (λ (l : List LexPart). f part ∷ l) (parts_next before fine i d lt)
 
-all_taken : (fine : List LexPart) → take (length fine) fine ≡ fine
-all_taken [] = refl
-all_taken (part ∷ parts) = ap (λ (l : List LexPart). part ∷ l) (all_taken parts)
-
-pub taken_all : (fine : List LexPart) (i : ℕ) → i ≡ length fine → take i fine ≡ fine
-taken_all fine i e = ap (λ n. take n fine) e ∙ all_taken fine
-
 -- ---- the zero as a value
 pub zero_accepted : (way : Way) (line : WallLine) → FitsLine line → Goes way line → FitsWhole (steep way line) → lex.IsAccepted (zero_numbers way line) (steep way line)
 zero_accepted way line h g f = (

@@ -5,6 +5,7 @@ use Rattle.std.proofs.lemmas.List.{get_or_default}
 use Rattle.wide_int.proofs.Ring.{as_D, Ds, same_D}
 use Rattle.wide_int.proofs.Order.{sign_cases, mul_pos_ℤ}
 use Rattle.int_vectors.specs.Vectors.{add, at}
+use Rattle.int_vectors.proofs.Entries.{at-add}
 use Rattle.lex_height.specs.Entries.{entry, entries, at_rank}
 use Rattle.lex_height.specs.Values as lex
 use Rattle.lex_height.specs.Order.{IsLess}
@@ -17,7 +18,7 @@ use Rattle.crossing.specs.Places.{origin}
 use Rattle.crossing.specs.Leading.{nth}
 use Rattle.crossing.specs.Ends.{IsEnd, IsSunk, AreCrossed}
 use Rattle.crossing.specs.Ties.{IsNotNegative, InSpan, IsLowerEnd, IsUpperEnd, NoLowerEnd, NoUpperEnd}
-use Rattle.crossing.proofs.Lists.{at-add, earlier_less, less_earlier, either}
+use Rattle.crossing.proofs.Lists.{earlier_less, less_earlier, either}
 use Rattle.crossing.proofs.Values.{turned_less, less_turn}
 use Rattle.crossing.proofs.OneWay.{sunk_out, level_in, leader, within, past}
 

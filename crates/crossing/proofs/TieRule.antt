@@ -4,6 +4,7 @@ use Rattle.std.proofs.lemmas.Int.{ints}
 use Rattle.wide_int.proofs.Order.{sign_cases}
 use Rattle.wide_int.proofs.Ring.{zero_mul_ℤ}
 use Rattle.int_vectors.specs.Vectors.{IsZero, at}
+use Rattle.int_vectors.proofs.Entries.{zero_from}
 use Rattle.lex_height.specs.Entries.{entry, entries}
 use Rattle.lex_height.specs.Values as lex
 use Rattle.lex_height.specs.Order.{IsSame}
@@ -18,7 +19,7 @@ use Rattle.crossing.specs.Places.{HasAt, IsNowhere, origin}
 use Rattle.crossing.specs.Leading.{Goes, IsLed, nth}
 use Rattle.crossing.specs.Ends.{led_by, IsEnd, IsSunk, AreCrossed, IsEndTime, pair_with, pair_of, earlier_of, IsFirstPair}
 use Rattle.crossing.specs.Ties.{IsZeroThen, InSpan, IsLowerEnd, IsFirstEnd, NoLowerTie, IsTie, HasNoTie}
-use Rattle.crossing.proofs.Lists.{zero_from, earlier_less, less_earlier, either}
+use Rattle.crossing.proofs.Lists.{earlier_less, less_earlier, either}
 use Rattle.crossing.proofs.Values.{turned_less}
 use Rattle.crossing.proofs.Once.{time_once}
 use Rattle.crossing.proofs.Leading.{same_or_not}
@@ -369,10 +370,3 @@ module _ (lines : List WallLine) (lower upper : Option End) (rise : IsEnd Rising
               lone_falling : (u : Option End) → IsEnd Falling lines u → pair_of u ≡ None → (i j : ℕ) → FallsHere u t q i → FallsHere u t q j → i ≡ j
               lone_falling None h e i j a b = absurd a
               lone_falling (Some u) h e i j a b = only_leads lines (HasAt (GoesAt Falling u.time) lines) u.first u.second (single u.time u.first u.second e) (leads_falling lines u h) i j a.0 b.0
-
--- the places of a tie of two lines are in the list
-pub inside : (lines : List WallLine) (t : lex.Value) (i j : ℕ) → IsTie lines (record { time = t; first = i + 1; second = Some (j + 1) }) → (i < length lines) × (j < length lines)
-inside lines t i j h = elim h.1.1 [
-  | inl k ↦ (let a = k.1.0.0.1 in let b = k.1.2.1 in (omega (arith, a), omega (arith, b)))
-  | inr k ↦ (let a = k.1.1.0.0.1 in let b = k.1.1.2.1 in (omega (arith, a), omega (arith, b)))
-]

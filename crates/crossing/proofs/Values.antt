@@ -5,6 +5,7 @@ use Rattle.std.proofs.Math.IntN.{*ℤ_comm}
 use Rattle.wide_int.proofs.Ring.{as_D, Ds, same_D, zero_mul_ℤ}
 use Rattle.wide_int.proofs.Order.{lt_cancel, mul_cancel, mul_pos_ℤ}
 use Rattle.int_vectors.specs.Vectors.{IsZero, IsPositive, at}
+use Rattle.int_vectors.proofs.Entries.{zero_from}
 use Rattle.lex_height.specs.Order.{IsLess, IsSame}
 use Rattle.lex_height.proofs.Comparing.{less_less, less_same, same_less, same_same, same_back, not_below_itself, less_turned, less_as}
 use Rattle.crossing.specs.declared.line.WallLine.{WallLine}
@@ -12,7 +13,7 @@ use Rattle.crossing.specs.declared.leaders.Way.{Way}
 use Rattle.crossing.specs.declared.leaders.Way.TheVariants.{Falling, Rising}
 use Rattle.crossing.specs.Lines.{constant, value}
 use Rattle.crossing.specs.Leading.{steep, start, Goes, IsBefore, IsEven}
-use Rattle.crossing.proofs.Lists.{at-sum, zero_at, zero_from, positive_at, positive_from, either}
+use Rattle.crossing.proofs.Lists.{at-sum, zero_at, positive_at, positive_from, either}
 
 -- ---- lines of one way
 -- a time as it runs on this way

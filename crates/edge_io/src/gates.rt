@@ -3,7 +3,7 @@ use std::sync::Wait;
 use std::sync::atomic::{AtomicBool, AtomicU64, Ordering};
 use std::thread;
 
-/// What a searcher passes before each of its expansions. It tells nothing.
+/// What a searcher of a team passes before each of its expansions. It tells nothing.
 pub trait Gate: Sync {
     /// The searcher's number, and the number of this expansion among its own, both from 1.
     fn pass<R: Wait>(&self, rt: &R, searcher: u32, expansion: u64);

@@ -1,11 +1,11 @@
-pub mod Minors
-pub mod Directions
-pub mod Factors
-pub mod Columns
-pub mod Choosing
-pub mod Turns
-pub mod Bounded
-pub mod Fitting
+mod Minors
+mod Directions
+mod Factors
+mod Columns
+mod Choosing
+mod Turns
+mod Bounded
+mod Fitting
 pub mod Ahead
 pub mod ByFactors
-pub mod BoundSteps
+mod BoundSteps

@@ -1,11 +1,11 @@
-pub mod DrawnNumbers
-pub mod DrawnCoordinates
-pub mod LiftedPoints
-pub mod WindowEntries
-pub mod GridPoints
-pub mod MadePoints
-pub mod FreePoints
-pub mod ScatteredPoints
-pub mod ValidLifts
-pub mod CyclicSupports
-pub mod ValidScatters
+mod DrawnNumbers
+mod DrawnCoordinates
+mod LiftedPoints
+mod WindowEntries
+mod GridPoints
+mod MadePoints
+mod FreePoints
+mod ScatteredPoints
+mod ValidLifts
+mod CyclicSupports
+mod ValidScatters

@@ -1,5 +1,5 @@
 -- Vectors of coordinates, and a set with the coordinates of one point more.
-use Rattle.std.proofs.Common.{◌≡◌, ◌||◌, ℕ, zero, suc, Bool, true, false, cond, pos, List, [], ◌∷◌, ◌++◌, map, take, get_or, refl, sym, ap, ◌∙◌, BTreeSet, is_eq, arith, Fits, w64}
+use Rattle.std.proofs.Common.{◌≡◌, ◌||◌, ℕ, zero, suc, Bool, true, cond, pos, List, [], ◌∷◌, ◌++◌, map, take, get_or, refl, sym, ap, ◌∙◌, BTreeSet, is_eq, arith, Fits, w64}
 use Rattle.std.specs.Prelude.{unsigned_abs, ◌==◌}
 use Rattle.std.specs.Global.{Vec}
 use Rattle.std.specs.Ordering.{nat_cmp, eq_by_cmp}
@@ -7,6 +7,7 @@ use Rattle.std.proofs.lemmas.Bool.Decides.{nat_tests}
 use Rattle.std.specs.Cmp.Lexicographic.{slice_cmp, pointwise, lists_ties}
 use Rattle.std.specs.BTreeSet.{contains, Updates}
 use Rattle.std.proofs.lemmas.List.{map_push}
+use Rattle.wide_int.proofs.Bools.{last_test, next_test}
 use Rattle.int_vectors.specs.Fits.{AllFit}
 use Rattle.cayley.specs.Files.{FilePoint}
 use Rattle.family_gen.specs.Scatter.{is_among}
@@ -31,16 +32,6 @@ same_test x y = grind (arith, nat_tests)
 
 one_test : (xs ys : List ℕ) → is_eq (slice_cmp nat_cmp xs ys) ≡ pointwise (λ a b. a == b) xs ys
 one_test xs ys = sym (lists_ties nat_cmp same_test xs ys)
-
-last_test : (b : Bool) → (b || false) ≡ cond b true false
-last_test true = refl
-last_test false = refl
-
-next_test : (a b c : Bool) → (a || cond b true c) ≡ cond b true (a || c)
-next_test true true c = refl
-next_test true false c = refl
-next_test false true c = refl
-next_test false false c = refl
 
 among_more : (xs : List ℕ) (points : List (List ℕ)) (x : List ℕ) → is_among xs (points ++ x ∷ []) ≡ cond (pointwise (λ a b. a == b) x xs) true (is_among xs points)
 among_more xs [] x = last_test (pointwise (λ a b. a == b) x xs)

@@ -1,16 +1,11 @@
--- signs of the code and signs of numbers
+-- numbers with given signs
 use Rattle.std.proofs.Common.{◌≡◌, ◌↔◌, ◌<ℤ◌, arith, refl, sym, subst, inl, inr}
 use Rattle.std.proofs.lemmas.Int.{ints}
 use Rattle.std.proofs.Math.IntN.{ℤ, pos, negsuc}
 use Rattle.cayley.specs.declared.found.Sign.{Sign}
 use Rattle.cayley.specs.declared.found.Sign.TheVariants.{Minus, Zero, Plus}
-use Rattle.cayley.specs.FlipRules as law
-use Rattle.flip_rule.specs.Signs.{HasSign, HaveSigns, HasMinus}
-
-abbrev pub sign_of : Sign → law.Sign
-sign_of Minus = law.Sign.minus
-sign_of Zero = law.Sign.nought
-sign_of Plus = law.Sign.plus
+use Rattle.cayley.specs.Signs.{HasSign, HaveSigns}
+use Rattle.flip_rule.specs.Signs.{HasMinus}
 
 abbrev pub number_of : Sign → ℤ
 number_of Minus = negsuc 0
@@ -21,11 +16,6 @@ pub has_number : (s : Sign) → HasSign s (number_of s)
 has_number Minus = omega (arith, ints)
 has_number Zero = refl
 has_number Plus = omega (arith, ints)
-
-pub has_law_sign : (s : Sign) (k : ℤ) → HasSign s k → law.HasSign (sign_of s) k
-has_law_sign Minus k h = h
-has_law_sign Zero k h = h
-has_law_sign Plus k h = h
 
 abbrev IsMinus : Sign → Type 0
 IsMinus Minus = Unit {0}

@@ -8,7 +8,7 @@ use Rattle.cayley.specs.Normals.{Normal, IsNormal}
 use Rattle.cayley.specs.Lives.{AliveJustBefore}
 use Rattle.cayley.specs.Dependencies.{Numbers, number_at, IsPositiveDependency}
 use Rattle.cayley.specs.Flips.{IsOnlyLevel}
-use Rattle.flip_rule.specs.Signs.{HaveSigns}
+use Rattle.cayley.specs.Signs.{HaveSigns}
 
 -- alive just before t, where of all further points c of support j alone is level; the signs are those of a dependency that is positive at c.
 -- That no further point is below at t, and that c isn't level at all times, follows

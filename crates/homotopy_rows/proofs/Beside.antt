@@ -1,6 +1,5 @@
 -- lines and their rows side by side
-use Rattle.std.proofs.Common.{◌≡◌, ℕ, zero, suc, ◌+◌, ◌<◌, ◌≤◌, List, [], ◌∷◌, ◌++◌, length, map, drop, get_or, drop-cons, add-one, drop_of_length-le, arith, sym, ap, subst, append-nil}
-use Rattle.std.proofs.lemmas.List.{append_assoc}
+use Rattle.std.proofs.Common.{◌≡◌, ℕ, zero, suc, ◌+◌, ◌<◌, ◌≤◌, List, [], ◌∷◌, ◌++◌, length, map, drop, get_or, drop_of_length-le, arith, sym, subst, append-nil}
 use Rattle.int_vectors.specs.Vectors.{Each}
 use Rattle.homotopy_rows.specs.Powers.{SideBySide}
 
@@ -17,17 +16,6 @@ beside_both E P Q [] (y ∷ ys) f e h = h
 beside_both E P Q (x ∷ xs) [] f e h = h
 beside_both E P Q (x ∷ xs) (y ∷ ys) f e h = (f x y e.0 h.0, beside_both E P Q xs ys f e.1 h.1)
 
-pub left_is : {A : Type 0} (xs : List A) (k : ℕ) (x : A) → k < length xs → x ≡ get_or xs k x → drop k xs ≡ x ∷ drop (k + 1) xs
-left_is xs k x h e = rw (add-one, drop-cons xs k x) (ap (λ z. z ∷ drop (suc k) xs) (sym e))
-
--- what is left of the lines, with any rows, completes the rows that were made
-pub made_more : {A B : Type 0} (P : A → B → Type 0) (xs : List A) (made : List B) (k : ℕ) (x : A) (y : B) → k < length xs → x ≡ get_or xs k x
-    → ((rest : List B) → SideBySide (drop k xs) rest P → SideBySide xs (made ++ rest) P) → P x y
-    → (rest : List B) → SideBySide (drop (k + 1) xs) rest P → SideBySide xs ((made ++ y ∷ []) ++ rest) P
-made_more P xs made k x y l e f p rest h =
-    subst (λ ys. SideBySide xs ys P) (sym (append_assoc made (y ∷ []) rest))
-    (f (y ∷ rest) (subst (λ us. SideBySide us (y ∷ rest) P) (sym (left_is xs k x l e)) (p, h)))
-
 pub made_whole : {A B : Type 0} (P : A → B → Type 0) (xs : List A) (made : List B) (k : ℕ) → length xs ≤ k
     → ((rest : List B) → SideBySide (drop k xs) rest P → SideBySide xs (made ++ rest) P) → SideBySide xs made P
 made_whole P xs made k l f = subst (λ ys. SideBySide xs ys P) (append-nil made) (f [] (subst (λ us. SideBySide us [] P) (sym (drop_of_length-le xs l)) tt))
@@ -36,10 +24,6 @@ pub each_item : {A : Type 0} (P : A → Type 0) (xs : List A) (k : ℕ) (x : A) 
 each_item P [] k x h l e = absurd (omega (arith, l))
 each_item P (y ∷ xs) zero x h l e = subst P (sym e) h.0
 each_item P (y ∷ xs) (suc k) x h l e = each_item P xs k x h.1 (omega (arith, l)) e
-
-pub each_with : {A : Type 0} (P Q R : A → Type 0) (xs : List A) → ((x : A) → P x → Q x → R x) → Each xs P → Each xs Q → Each xs R
-each_with P Q R [] f p q = tt
-each_with P Q R (x ∷ xs) f p q = (f x p.0 q.0, each_with P Q R xs f p.1 q.1)
 
 -- of rows that are seen through f
 pub beside_seen : {A B C : Type 0} (f : B → C) (P : A → C → Type 0) (xs : List A) (ys : List B) → SideBySide xs ys (λ x y. P x (f y)) → SideBySide xs (map f ys) P

@@ -2,8 +2,6 @@
 use Rattle.std.proofs.Common.{◌≡◌, ◌⊎◌, ◌↔◌, ℕ, ◌+◌, ◌-◌, ◌<◌, ◌≤◌, List, [], ◌∷◌, ◌++◌, length, map, take, drop, get_or, inl, inr, drop-cons, add-one, drop_of_length-le, take_all, arith, refl, sym, ap, ap₂, subst, ◌∙◌, append-nil}
 use Rattle.std.proofs.Math.IntN.{ℤ, pos}
 use Rattle.std.proofs.lemmas.List.{length-map, take_more, append_assoc, get_or-map}
-use Rattle.wide_int.specs.Whole.{FitsWhole}
-use Rattle.int_vectors.specs.Fits.{AllFit}
 use Rattle.cayley.specs.Cells.{Cell}
 use Rattle.cayley.specs.Problems.{Point, origin, point_at, with_rank}
 use Rattle.cayley.specs.Resting.{rise}
@@ -14,10 +12,6 @@ use Rattle.homotopy_rows.specs.Powers.{sums_over, sums}
 use native.Mathlib.Decide.{dec_le}
 
 -- ---- one support
-pub fit-append : (xs : List ℤ) (x : ℤ) → AllFit xs → FitsWhole x → AllFit (xs ++ x ∷ [])
-fit-append [] x h f = (f, tt)
-fit-append (y ∷ xs) x h f = (h.0, fit-append xs x h.1 f)
-
 module _ (den : ℤ) (v : List ℤ) (s : List Point) (a b : ℕ) where
   sum_of_place : (k : ℕ) → k < length s → get_or (sums_over den v s a) k (pos 0) ≡ rise den v (point_at s a) (point_at s (k + 1))
   sum_of_place k h =

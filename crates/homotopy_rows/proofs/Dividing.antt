@@ -1,35 +1,17 @@
 -- common divisors of lists of numbers, and their quotients
-use Rattle.std.proofs.Common.{◌≡◌, ◌≢◌, ℕ, zero, suc, ◌+◌, ◌<◌, ◌≤◌, ◌<ℤ◌, List, [], ◌∷◌, ◌++◌, length, map, take, drop, get_or, unsigned_abs, arith, refl, sym, ap, ap₂, subst, ◌∙◌, append-nil, take_all}
+use Rattle.std.proofs.Common.{◌≡◌, ℕ, zero, suc, ◌+◌, ◌<◌, ◌≤◌, ◌<ℤ◌, List, [], ◌∷◌, ◌++◌, length, map, take, drop, get_or, unsigned_abs, arith, refl, sym, ap, ap₂, subst, ◌∙◌, append-nil, take_all}
 use Rattle.std.proofs.lemmas.Int.{ints}
-use Rattle.std.proofs.Math.IntN.{ℤ, pos, negsuc}
-use Rattle.std.proofs.Math.Nat.{one-dvd}
-use Prim.Native.Nat.{◌∣◌}
+use Rattle.std.proofs.Math.IntN.{ℤ, pos}
 use Rattle.std.specs.Int.{IsGcd}
 use Rattle.std.proofs.lemmas.List.{take_more, take-append-drop}
 use Rattle.std.proofs.lemmas.Grind.{flat_map-append}
-use Rattle.std.proofs.lemmas.Nat.Gcd.{dvd_trans}
+use Rattle.wide_int.proofs.Signed.{positive_is}
 use Rattle.int_vectors.specs.Contents.{DividesEach, IsContent, divided}
 use Rattle.int_vectors.specs.Vectors.{Each, scale}
-use Rattle.int_vectors.proofs.EntryDivisors.{scale_cancel, scale-divided}
+use Rattle.int_vectors.proofs.EntryDivisors.{scale_cancel, scale-divided, divides_both, divides_apart, divides_trans, one_divides_each}
 use Rattle.homotopy_rows.specs.Powers.{all_of}
 
 -- ---- divisors of lists side by side
-divides_trans : (d g : ℕ) (xs : List ℤ) → d ∣ g → DividesEach g xs → DividesEach d xs
-divides_trans d g [] h k = tt
-divides_trans d g (x ∷ xs) h k = (dvd_trans d h k.0, divides_trans d g xs h k.1)
-
-divides_both : (d : ℕ) (xs ys : List ℤ) → DividesEach d xs → DividesEach d ys → DividesEach d (xs ++ ys)
-divides_both d [] ys h k = k
-divides_both d (x ∷ xs) ys h k = (h.0, divides_both d xs ys h.1 k)
-
-divides_apart : (d : ℕ) (xs ys : List ℤ) → DividesEach d (xs ++ ys) → DividesEach d xs × DividesEach d ys
-divides_apart d [] ys h = (tt, h)
-divides_apart d (x ∷ xs) ys h = let k = divides_apart d xs ys h.1 in ((h.0, k.0), k.1)
-
-one_divides : (xs : List ℤ) → DividesEach 1 xs
-one_divides [] = tt
-one_divides (x ∷ xs) = (one-dvd (unsigned_abs x), one_divides xs)
-
 content-append : (xs ys : List ℤ) (g h k : ℕ) → IsContent xs g → IsContent ys h → IsGcd h g k → IsContent (xs ++ ys) k
 content-append xs ys g h k x y d = (
   divides_both k xs ys (divides_trans k g xs d.1 x.0) (divides_trans k h ys d.0 y.0),
@@ -53,7 +35,7 @@ pub divisor_one : (den : ℤ) (rows : List (List ℤ)) (i : ℕ) → IsContent (
 divisor_one den rows i h =
     let e : all_of (take i rows) ++ all_of (drop i rows) ≡ all_of rows = sym (flat_map-append (λ ws. ws) (take i rows) (drop i rows)) ∙ ap all_of (take-append-drop i rows) in
     subst (λ xs. IsContent (den ∷ xs) 1) e
-    (one_divides (den ∷ (all_of (take i rows) ++ all_of (drop i rows))), (λ d k. h.1 d (divides_apart d (den ∷ all_of (take i rows)) (all_of (drop i rows)) k).0))
+    (one_divides_each (den ∷ (all_of (take i rows) ++ all_of (drop i rows))), (λ d k. h.1 d (divides_apart d (den ∷ all_of (take i rows)) (all_of (drop i rows)) k).0))
 
 pub divisor_whole : (den : ℤ) (rows : List (List ℤ)) (i g : ℕ) → length rows ≤ i → IsContent (den ∷ all_of (take i rows)) g → IsContent (den ∷ all_of rows) g
 divisor_whole den rows i g l h = subst (λ rs. IsContent (den ∷ all_of rs) g) (take_all i rows l) h
@@ -63,14 +45,7 @@ pub divides_rows : (d : ℕ) (rows : List (List ℤ)) → DividesEach d (all_of 
 divides_rows d [] h = tt
 divides_rows d (ws ∷ rows) h = let k = divides_apart d ws (all_of rows) h in (k.0, divides_rows d rows k.1)
 
-pub above : (z : ℤ) → pos 0 <ℤ z → z ≢ pos 0
-above z p e = omega (arith, ints, p, e)
-
 -- ---- quotients
-pub positive_is : (g : ℤ) → pos 0 <ℤ g → pos (unsigned_abs g) ≡ g
-positive_is (pos n) p = refl
-positive_is (negsuc n) p = absurd (omega (arith, ints, p))
-
 each_read : (P : List ℤ → Type 0) (rows : List (List ℤ)) (i : ℕ) (ws : List ℤ) → i < length rows → Each rows P → ws ≡ get_or rows i ws → P ws
 each_read P [] i ws l h e = absurd (omega (arith, l))
 each_read P (us ∷ rows) zero ws l h e = subst P (sym e) h.0

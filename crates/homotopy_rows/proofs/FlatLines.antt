@@ -8,6 +8,7 @@ use Rattle.cayley.specs.Cells.{Cell, EachPair}
 use Rattle.cayley.specs.Files.{File, plain_problem}
 use Rattle.cayley.specs.Problems.{Version, version1, version2, Point, Problem}
 use Rattle.cayley.specs.Valid.{IsValidFile, IsValidProblem}
+use Rattle.cayley.proofs.OneCell.PlainProblems.{plain_valid}
 use Rattle.listing_text.specs.declared.listing.Listing.{Listing}
 use Rattle.listing_text.specs.declared.listing.ListedCell.{ListedCell}
 use Rattle.cell_certificate.specs.Judgements.{AllPass, HasLeast}
@@ -16,7 +17,6 @@ use Rattle.cell_certificate.specs.Ties.{IsLevelLine}
 use Rattle.cell_certificate.specs.Written.{IsListed}
 use Rattle.cell_certificate.proofs.Least.{least_free, least_plain}
 use Rattle.cell_certificate.proofs.Levels.{level_from}
-use Rattle.cell_certificate.proofs.PlainPoints.{valid_of}
 use Rattle.homotopy_rows.specs.declared.rows.RowFault.{RowFault}
 use Rattle.homotopy_rows.specs.declared.rows.RowFault.TheVariants.{Flat, OutOfMemory}
 use Rattle.homotopy_rows.specs.declared.rows.PowerRow.{PowerRow}
@@ -65,7 +65,7 @@ three den v (s ∷ supports) (x ∷ cell) o l r = ((o.0, l.0, r.0), three den v 
 -- ---- one line
 module _ (file : File) (valid : IsValidFile file) (x : ListedCell) (pass : IsPassed (plain_problem file) x) where
   good : IsValidProblem (plain_problem file)
-  good = valid_of file valid
+  good = plain_valid file valid
 
   pub line_rises : ¬ (IsFlat (plain_problem file) x) → EachPair (plain_problem file).supports x.cell (IsRising x.normal.den x.normal.v)
   line_rises n =

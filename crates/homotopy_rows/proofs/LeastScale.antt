@@ -8,12 +8,12 @@ use Rattle.std.proofs.lemmas.Nat.Gcd.{dvd-zero, le_of_dvd}
 use Rattle.wide_int.proofs.CommonDivisors.{gcd_multiple}
 use Rattle.wide_int.proofs.Order.{sign_cases, mul_pos_neg_ℤ}
 use Rattle.wide_int.proofs.Ring.{as_D, Ds, same_D, mul_zero_ℤ}
+use Rattle.wide_int.proofs.Signed.{positive_is}
 use Rattle.int_vectors.specs.Contents.{content, IsContent}
 use Rattle.int_vectors.specs.Vectors.{Each, scale}
 use Rattle.int_vectors.proofs.EntryDivisors.{same_content}
 use Rattle.cayley.specs.Problems.{Problem}
 use Rattle.listing_text.specs.declared.listing.ListedCell.{ListedCell}
-use Rattle.homotopy_rows.proofs.Dividing.{positive_is}
 use Rattle.homotopy_rows.specs.Powers.{Row, ArePowers, HasLeastScale, MakesWhole, all_of, sums_of}
 
 -- ---- multiples of all numbers

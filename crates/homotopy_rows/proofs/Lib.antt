@@ -1,9 +1,9 @@
-pub mod Summing
-pub mod Spots
-pub mod Collected
-pub mod Dividing
-pub mod Beside
-pub mod LeastScale
-pub mod ZeroAtPairs
+mod Summing
+mod Spots
+mod Collected
+mod Dividing
+mod Beside
+mod LeastScale
+mod ZeroAtPairs
 pub mod FlatLines
-pub mod Written
+mod Written

@@ -1,21 +1,13 @@
 -- sums that fit, and the sum of a point against itself
-use Rattle.std.proofs.Common.{◌≡◌, List, [], ◌∷◌, arith, refl, sym, ap, ap₂, subst, ◌∙◌}
+use Rattle.std.proofs.Common.{◌≡◌, List, [], ◌∷◌, arith, refl, ap, ap₂, ◌∙◌}
 use Rattle.std.proofs.lemmas.Int.{ints}
-use Rattle.std.proofs.Math.IntN.{ℤ, pos, ◌+ℤ◌, ◌-ℤ◌, ◌*ℤ◌, neg_ℤ, +ℤ_assoc, +ℤ_idr}
+use Rattle.std.proofs.Math.IntN.{ℤ, pos, ◌+ℤ◌, ◌-ℤ◌, ◌*ℤ◌, neg_ℤ}
 use Rattle.wide_int.proofs.Ring.{zero_mul_ℤ, mul_zero_ℤ}
-use Rattle.wide_int.specs.Whole.{FitsWhole}
-use Rattle.int_vectors.specs.Fits.{FitsDot}
 use Rattle.int_vectors.specs.Vectors.{dot, sub}
 use Rattle.cayley.specs.Problems.{Point}
 use Rattle.cayley.specs.Resting.{rise}
 
 -- the last partial sum is the whole one
-pub fits_total : (start : ℤ) (xs ys : List ℤ) → FitsDot start xs ys → FitsWhole (start +ℤ dot xs ys)
-unfolding FitsDot
-fits_total start [] ys f = subst FitsWhole (sym (+ℤ_idr start)) f
-fits_total start (x ∷ xs) [] f = subst FitsWhole (sym (+ℤ_idr start)) f
-fits_total start (x ∷ xs) (y ∷ ys) f = subst FitsWhole (+ℤ_assoc start (x *ℤ y) (dot xs ys)) (fits_total (start +ℤ x *ℤ y) xs ys f.2)
-
 self_dot : (xs v : List ℤ) → dot (sub xs xs) v ≡ pos 0
 self_dot [] v = refl
 self_dot (x ∷ xs) [] = refl

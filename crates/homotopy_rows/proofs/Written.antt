@@ -4,10 +4,10 @@ use Rattle.std.proofs.lemmas.List.{append_assoc, length-map}
 use Rattle.std.proofs.lemmas.Grind.{flat_map-append}
 use Rattle.std.specs.List.{join_with_byte}
 use Rattle.std.specs.Fmt.{signed_decimal}
-use Rattle.cayley.specs.Cells.{Cell}
-use Rattle.support_text.specs.Words.{Text, text_of}
+use Rattle.support_text.specs.Words.{text_of}
 use Rattle.support_text.proofs.Written.{text_append, text_each, led}
 use Rattle.listing_text.specs.Writing.{position_words}
+use Rattle.listing_text.proofs.Written.{spaced, led as behind, positions}
 use Rattle.homotopy_rows.specs.Powers.{Row}
 use Rattle.homotopy_rows.specs.Writing.{power_words, scale_words, row_lines, homotopy_text}
 
@@ -21,19 +21,6 @@ powers_written o i j k ws a b c =
     ∙ ap (λ t. o ++ t) (sym (append-nil (join_with_byte 32 (power_words ws) ++ 10 ∷ []) ∙ ap (λ t. t ++ 10 ∷ []) (led (codes "powers") ws) ∙ append_assoc (codes "powers") s (10 ∷ [])))
 
 -- the line of a cell and its scale
-abbrev spaced : List Text → List ℕ
-spaced ws = flat_map (λ u. 32 ∷ u) ws
-
-behind : (w : Text) (ws : List Text) → join_with_byte 32 (w ∷ ws) ≡ w ++ spaced ws
-behind w [] = sym (append-nil w)
-behind w (u ∷ ws) = ap (λ t. w ++ (32 ∷ t)) (behind u ws)
-
-positions : (cell : Cell) → flat_map (λ x. (codes " " ++ decimal x.0) ++ (codes " " ++ decimal x.1)) cell ≡ spaced (position_words cell)
-positions [] = refl
-positions (x ∷ cell) =
-    ap (λ t. ((codes " " ++ decimal x.0) ++ (codes " " ++ decimal x.1)) ++ t) (positions cell)
-    ∙ append_assoc (codes " " ++ decimal x.0) (codes " " ++ decimal x.1) (spaced (position_words cell))
-
 pub scale_written : (o i j k l m : List ℕ) (r : Row) → i ≡ o ++ codes "cell" → j ≡ i ++ flat_map (λ x. (codes " " ++ decimal x.0) ++ (codes " " ++ decimal x.1)) r.cell
     → k ≡ j ++ codes " : " → l ≡ k ++ signed_decimal r.scale → m ≡ l ++ codes "\n" → m ≡ o ++ text_of (scale_words r ∷ [])
 scale_written o i j k l m r a b c d e =

@@ -3,32 +3,22 @@ use Rattle.std.proofs.Common.{◌≡◌, ◌≢◌, ◌⊎◌, ℕ, ◌-◌, ◌
 use Rattle.std.proofs.lemmas.Int.{ints}
 use Rattle.std.proofs.lemmas.List.{length-map, get_or-map}
 use Rattle.std.proofs.Math.IntN.{ℤ, pos, ◌*ℤ◌}
-use Rattle.wide_int.proofs.Order.{sign_cases, mul_pos_neg_ℤ, zero_product}
-use Rattle.wide_int.proofs.Ring.{mul_zero_ℤ}
 use Rattle.int_vectors.specs.Vectors.{at, scale}
 use Rattle.cayley.specs.Cells.{Cell, EachPair, IsFurther}
 use Rattle.cayley.specs.Problems.{Point, Problem, origin, point_at}
 use Rattle.cayley.specs.Resting.{rise}
-use Rattle.cayley.proofs.Algebra.ScaledInverse.{at-scale, length-scale}
 use Rattle.listing_text.specs.declared.listing.ListedCell.{ListedCell}
 use Rattle.homotopy_rows.specs.Points.{IsLevelPair}
 use Rattle.homotopy_rows.specs.Powers.{Row, SideBySide, ArePowers, IsZeroAtPair, IsZeroAtPairs, sums_over, sums}
 use Rattle.homotopy_rows.proofs.LeastScale.{divisor_positive}
 use Rattle.homotopy_rows.proofs.Summing.{rise_self}
 use native.Mathlib.Decide.{ℕ_discrete}
+use Rattle.int_vectors.proofs.Entries.{length-scale, at-scale}
+use Rattle.reduced_rows.proofs.Entries.{zero_factor, positive_factor}
 
 -- of a support: the pair is level, and each further point rises
 abbrev pub IsRising : ℤ → List ℤ → List Point → ℕ → ℕ → Type 0
 IsRising den v s a b = ((1 ≤ a) × (a < b) × (b ≤ length s)) × IsLevelPair den v s a b × ((c : ℕ) → IsFurther s a b c → pos 0 <ℤ rise den v (point_at s a) (point_at s c))
-
-of_zero : (g x : ℤ) → pos 0 <ℤ g → g *ℤ x ≡ pos 0 → x ≡ pos 0
-of_zero g x p e = elim (zero_product g x e) [ inl z ↦ absurd (omega (arith, ints, p, z)) | inr z ↦ z ]
-
-of_positive : (g x : ℤ) → pos 0 <ℤ g → pos 0 <ℤ (g *ℤ x) → pos 0 <ℤ x
-of_positive g x p h = sign_cases x
-    (λ n. absurd (let m = mul_pos_neg_ℤ g x p n in omega (arith, ints, m, h)))
-    (λ z. absurd (let m = ap (λ y. g *ℤ y) z ∙ mul_zero_ℤ g in omega (arith, ints, m, h)))
-    (λ q. q)
 
 module _ (den : ℤ) (v : List ℤ) (g : ℤ) (p : pos 0 <ℤ g) (s : List Point) (a b : ℕ) (ws : List ℤ) (e : scale g ws ≡ sums_over den v s a) (r : IsRising den v s a b) where
   long : length ws ≡ length s
@@ -45,7 +35,7 @@ module _ (den : ℤ) (v : List ℤ) (g : ℤ) (p : pos 0 <ℤ g) (s : List Point
 
   rising : (c : ℕ) → 1 ≤ c → c ≤ length ws → c ≢ a → c ≢ b → pos 0 <ℤ at ws (c - 1)
   rising c l h na nb =
-      of_positive g (at ws (c - 1)) p
+      positive_factor g (at ws (c - 1)) p
       (subst (λ z. pos 0 <ℤ z) (sym (power_is c l h)) (r.2 c (l, (let n = long in omega (arith, h, n)), na, nb)))
 
   where_zero : (c : ℕ) → 1 ≤ c → c ≤ length ws → at ws (c - 1) ≡ pos 0 → (c ≡ a) ⊎ (c ≡ b)
@@ -59,7 +49,7 @@ module _ (den : ℤ) (v : List ℤ) (g : ℤ) (p : pos 0 <ℤ g) (s : List Point
 
   pub zero_at_pair : IsZeroAtPair (a, b) ws
   zero_at_pair c l h = (
-    ((λ z. where_zero c l h z), (λ i. of_zero g (at ws (c - 1)) p (power_is c l h ∙ of_pair c i))),
+    ((λ z. where_zero c l h z), (λ i. zero_factor g (at ws (c - 1)) p (power_is c l h ∙ of_pair c i))),
     rising c l h,
   )
 

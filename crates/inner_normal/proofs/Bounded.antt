@@ -1,17 +1,14 @@
 -- the sums behind a bound
-use Rattle.std.proofs.Common.{◌≡◌, ℕ, ◌+◌, ◌*◌, ◌^◌, ◌<◌, ◌≤◌, ℤ, pos, ◌+ℤ◌, ◌-ℤ◌, ◌*ℤ◌, neg_ℤ, unsigned_abs, List, [], ◌∷◌, length, sym, subst, arith}
-use Rattle.std.proofs.lemmas.Int.{ints}
+use Rattle.std.proofs.Common.{◌≡◌, ℕ, ◌+◌, ◌*◌, ◌^◌, ◌<◌, ◌≤◌, ℤ, pos, ◌+ℤ◌, ◌*ℤ◌, unsigned_abs, List, [], ◌∷◌, length, sym, subst, arith}
 use Rattle.std.proofs.Math.IntN.{*ℤ_comm}
 use Rattle.wide_int.specs.Whole.{FitsWhole}
 use Rattle.int_vectors.specs.Bounds.{size, Within, SumBelow}
 use Rattle.int_vectors.specs.Fits.{FitsDot}
-use Rattle.int_vectors.specs.Vectors.{Each, sub, dot}
+use Rattle.int_vectors.specs.Vectors.{Each, sub}
 use Rattle.int_vectors.proofs.BoundSums.{room_fits}
+use Rattle.int_vectors.proofs.Differences.{minus_one}
 use Rattle.cayley.specs.Valid.{IsCornerCoordinate}
 use Rattle.cayley.proofs.OneCell.EdgeRows.{abs_sub}
-
-minus_one : (x y : ℤ) → x +ℤ neg_ℤ (pos 1) *ℤ y ≡ x -ℤ y
-minus_one x y = omega (arith, ints)
 
 -- no difference of coordinates is above 66,000,000
 pub within_sub : (xs ys : List ℤ) → length xs ≡ length ys → Each xs IsCornerCoordinate → Each ys IsCornerCoordinate → Within 66000000 (sub xs ys)

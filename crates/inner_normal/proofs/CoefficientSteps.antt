@@ -3,9 +3,9 @@ use Rattle.std.proofs.Common.{◌≡◌, ◌↔◌, ℕ, zero, suc, ◌+◌, ◌
 use Rattle.std.specs.Prelude.{slice_index_or}
 use Rattle.std.proofs.Math.IntN.{+ℤ_assoc, +ℤ_idl, +ℤ_idr}
 use Rattle.wide_int.specs.Whole.{FitsWhole}
+use Rattle.wide_int.proofs.Signed.{neg_fits}
 use Rattle.int_vectors.specs.Fits.{AllFit, FitsDot}
 use Rattle.int_vectors.specs.Vectors.{Each, at, dot}
-use Rattle.int_vectors.proofs.BoundSums.{abs_neg}
 use Rattle.cayley.proofs.OneCell.EdgeRows.{fits-append}
 use Rattle.inner_normal.specs.Coefficients.{less_own, products, coefficients_from}
 
@@ -23,7 +23,7 @@ own_elsewhere (suc i) zero den m n = refl
 own_elsewhere (suc i) (suc j) den m n = own_elsewhere i j den m (λ e. n (ap suc e))
 
 -- where all numbers of a product fit, it does
-fits_total : (t : ℤ) (xs ys : List ℤ) → FitsDot t xs ys → FitsWhole (t +ℤ dot xs ys)
+pub fits_total : (t : ℤ) (xs ys : List ℤ) → FitsDot t xs ys → FitsWhole (t +ℤ dot xs ys)
 unfolding FitsDot
 fits_total t [] ys h = subst FitsWhole (sym (+ℤ_idr t)) h
 fits_total t (x ∷ xs) [] h = subst FitsWhole (sym (+ℤ_idr t)) h
@@ -31,9 +31,6 @@ fits_total t (x ∷ xs) (y ∷ ys) h = subst FitsWhole (+ℤ_assoc t (x *ℤ y) 
 
 pub dot_fits : (xs ys : List ℤ) → FitsDot (pos 0) xs ys → FitsWhole (dot xs ys)
 dot_fits xs ys h = subst FitsWhole (+ℤ_idl (dot xs ys)) (fits_total (pos 0) xs ys h)
-
-pub neg_fits : (m : ℤ) → FitsWhole m → FitsWhole (neg_ℤ m)
-neg_fits m h = subst (λ n. n < 170141183460469231731687303715884105728) (sym (abs_neg m)) h
 
 -- the numbers of the pairs from place i on
 abbrev pub FitsFrom : ℕ → ℕ → ℤ → List ℤ → List (List ℤ) → Type 0

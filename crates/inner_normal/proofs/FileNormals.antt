@@ -1,21 +1,22 @@
 -- the moving normal of a cell of file points is that of the problem that has the file points alone
-use Rattle.std.proofs.Common.{◌≡◌, ℕ, zero, suc, ◌+◌, ◌-◌, ◌<◌, ◌≤◌, Bool, true, false, if◌then◌else◌, inl, inr, List, [], ◌∷◌, length, map, take, arith, refl, sym, ap, ap₂, subst₂, ◌∙◌}
+use Rattle.std.proofs.Common.{◌≡◌, ℕ, zero, suc, ◌+◌, ◌-◌, ◌<◌, ◌≤◌, inl, inr, List, [], ◌∷◌, length, map, take, arith, sym, ap, subst₂, ◌∙◌}
 use Rattle.std.proofs.lemmas.Int.{ints}
 use Rattle.std.proofs.Math.IntN.{ℤ, pos, ◌+ℤ◌, ◌-ℤ◌, ◌*ℤ◌, *ℤ-zero}
 use Rattle.wide_int.proofs.Order.{zero_product}
 use Rattle.wide_int.proofs.Ring.{as_D, Ds, same_D}
-use Rattle.int_vectors.specs.Vectors.{IsZero, sub, dot, at}
+use Rattle.int_vectors.specs.Vectors.{IsZero, sub, dot, at, entries_at}
 use Rattle.cayley.specs.Times.{Time, time_zero}
-use Rattle.cayley.specs.Problems.{Version, Point, Problem, IsProblem, origin, point_at, with_rank, is_start_corner, numbered, numbered_supports, ranks_in, ranked_supports, first_points, file_points, unperturbed, HasSamePoints}
+use Rattle.cayley.specs.Problems.{Version, Point, Problem, IsProblem, origin, point_at, ranked_supports, first_points, file_points, unperturbed, HasSamePoints}
 use Rattle.cayley.specs.Problems.Version.{version1, version2}
 use Rattle.cayley.specs.Cells.{Cell, EachPair, IsOf, IsIndependent}
 use Rattle.cayley.specs.Normals.{Normal, height, gap}
 use Rattle.cayley.specs.Mixed.{HasFirstEntries}
 use Rattle.cayley.proofs.Lists.Each.{read_take}
 use Rattle.cayley.proofs.Algebra.ScaledInverse.{dot-scale}
-use Rattle.cayley.proofs.Algebra.RowNormals.{entry, gap-at, at-zero}
+use Rattle.cayley.proofs.Algebra.RowNormals.{gap-at, at-zero}
 use Rattle.cayley.proofs.OneCell.CellNormals.{a_normal}
-use Rattle.cayley.proofs.OneCell.Unperturbed.{point_unranked, same_unperturbed, same_each_pair, same_of, same_independent}
+use Rattle.cayley.proofs.OneCell.Unperturbed.{point_unranked, same_unperturbed, same_each_pair, same_of, same_independent, unranked}
+use Rattle.cayley.proofs.Ranking.Unranked.{unranked_supports}
 use Rattle.inner_normal.specs.declared.moving.MovingNormal.{MovingNormal}
 use Rattle.inner_normal.specs.MovingNormals.{numerators, IsMovingNormal}
 use Rattle.inner_normal.proofs.PairEquations.{difference, Levels, dot_numerators, first_rise, moving_of}
@@ -32,11 +33,11 @@ time_equation : (t : Time) (v : Normal) (m : MovingNormal) (x y : Point) → Has
     +ℤ at t.entries 0 *ℤ (dot (sub y.coordinates x.coordinates) m.q +ℤ m.den *ℤ (y.speed -ℤ x.speed)) ≡ pos 0
 time_equation t v m x y f g =
     let d = sub y.coordinates x.coordinates in
-    let h : t.over *ℤ dot d (entry 0 v.entries) +ℤ v.over *ℤ (t.over *ℤ (y.base -ℤ x.base) +ℤ (y.speed -ℤ x.speed) *ℤ at t.entries 0) ≡ pos 0 =
-    ap (λ z. t.over *ℤ dot d (entry 0 v.entries) +ℤ v.over *ℤ z) (sym (first_rise t x y)) ∙ sym (gap-at d v.entries (sub (height t y) (height t x)) t.over v.over 0) ∙ at-zero (gap t v x y) 0 g in
-    let e : v.over *ℤ (t.over *ℤ dot d m.p +ℤ at t.entries 0 *ℤ dot d m.q) ≡ t.over *ℤ m.den *ℤ dot d (entry 0 v.entries) =
-    ap (λ z. v.over *ℤ z) (sym (dot_numerators t d m.p m.q)) ∙ sym (dot-scale d v.over (numerators t m.p m.q)) ∙ ap (dot d) f ∙ dot-scale d (t.over *ℤ m.den) (entry 0 v.entries) in
-    let z = together v.over t.over (at t.entries 0) m.den (dot d m.p) (dot d m.q) (dot d (entry 0 v.entries)) (y.base -ℤ x.base) (y.speed -ℤ x.speed) e h in
+    let h : t.over *ℤ dot d (entries_at 0 v.entries) +ℤ v.over *ℤ (t.over *ℤ (y.base -ℤ x.base) +ℤ (y.speed -ℤ x.speed) *ℤ at t.entries 0) ≡ pos 0 =
+    ap (λ z. t.over *ℤ dot d (entries_at 0 v.entries) +ℤ v.over *ℤ z) (sym (first_rise t x y)) ∙ sym (gap-at d v.entries (sub (height t y) (height t x)) t.over v.over 0) ∙ at-zero (gap t v x y) 0 g in
+    let e : v.over *ℤ (t.over *ℤ dot d m.p +ℤ at t.entries 0 *ℤ dot d m.q) ≡ t.over *ℤ m.den *ℤ dot d (entries_at 0 v.entries) =
+    ap (λ z. v.over *ℤ z) (sym (dot_numerators t d m.p m.q)) ∙ sym (dot-scale d v.over (numerators t m.p m.q)) ∙ ap (dot d) f ∙ dot-scale d (t.over *ℤ m.den) (entries_at 0 v.entries) in
+    let z = together v.over t.over (at t.entries 0) m.den (dot d m.p) (dot d m.q) (dot d (entries_at 0 v.entries)) (y.base -ℤ x.base) (y.speed -ℤ x.speed) e h in
     elim (zero_product v.over _ z) [ inl n ↦ absurd (let q = v.positive in omega (arith, ints, n, q)) | inr k ↦ k ]
   where
     ring : (w o z d a b c r s : ℤ) → w *ℤ (o *ℤ (a +ℤ d *ℤ r) +ℤ z *ℤ (b +ℤ d *ℤ s)) +ℤ o *ℤ d *ℤ c ≡ w *ℤ (o *ℤ a +ℤ z *ℤ b) +ℤ d *ℤ (o *ℤ c +ℤ w *ℤ (o *ℤ r +ℤ s *ℤ z))
@@ -50,9 +51,6 @@ time_equation t v m x y f g =
 
 time_one : Time
 time_one = record { entries = pos 1 ∷ []; over = pos 1; positive = record { lt = tt } }
-
-abbrev Flat : List ℤ → List Point → ℕ → ℕ → Type 0
-Flat v s a b = dot (difference s a b) v ≡ pos 0
 
 abbrev InRange : List Point → ℕ → ℕ → Type 0
 InRange s a b = (1 ≤ a) × (a < b) × (b ≤ length s)
@@ -92,33 +90,13 @@ module _ (p : Problem) (cell : Cell) (m : MovingNormal) (n : IsMovingNormal p ce
           let r = rest ra rb e.0 in
           ((r, move ra rb r f.0), both supports cell e.1 f.1)
 
--- ---- ranks given anew
-abbrev unranked : List Point → List Point
-unranked s = map (with_rank 0) s
-
-numbered_points : (i f position r : ℕ) (xs : List Point) → unranked (numbered i f position r xs) ≡ unranked xs
-numbered_points i f position r [] = refl
-numbered_points i f position r (x ∷ xs) =
-    choice (is_start_corner i f position) (with_rank 0 x ∷ numbered i f (suc position) r xs) (with_rank r x ∷ numbered i f (suc position) (suc r) xs) (unranked (x ∷ xs))
-    (ap (λ ys. with_rank 0 x ∷ ys) (numbered_points i f (suc position) r xs))
-    (ap (λ ys. with_rank 0 x ∷ ys) (numbered_points i f (suc position) (suc r) xs))
-  where
-    choice : (b : Bool) (xs ys zs : List Point) → unranked xs ≡ zs → unranked ys ≡ zs → unranked (if b then xs else ys) ≡ zs
-    choice true xs ys zs h k = h
-    choice false xs ys zs h k = k
-
-numbered_all : (i r : ℕ) (files : List ℕ) (supports : List (List Point)) → map unranked (numbered_supports i r files supports) ≡ map unranked supports
-numbered_all i r files [] = refl
-numbered_all i r [] (s ∷ supports) = ap₂ (λ x xs. x ∷ xs) (numbered_points i 0 1 r s) (numbered_all (suc i) (r + ranks_in 0 s) [] supports)
-numbered_all i r (f ∷ files) (s ∷ supports) = ap₂ (λ x xs. x ∷ xs) (numbered_points i f 1 r s) (numbered_all (suc i) (r + ranks_in f s) files supports)
-
 -- the problem with the first points of each support, their ranks as they were
 abbrev fronts : Problem → Problem
 fronts p = record p { supports = first_points p.files p.supports }
 
 ranked_all : (p : Problem) (version : Version) (files : List ℕ) → map unranked (ranked_supports version files p.supports) ≡ map unranked p.supports
 ranked_all p version1 files = sym (ap (λ (q : Problem). q.supports) (same_unperturbed p))
-ranked_all p version2 files = numbered_all 1 1 files p.supports
+ranked_all p version2 files = unranked_supports 1 1 files p.supports
 
 same_fronts : (p : Problem) → HasSamePoints (fronts p) (file_points p)
 same_fronts p = ap (λ (ss : List (List Point)). record (unperturbed p) { supports = ss }) (sym (ranked_all (fronts p) p.version p.files))

@@ -11,6 +11,7 @@ pub mod Meaning
 pub mod Faults
 pub mod InverseSteps
 pub mod CoefficientSteps
-pub mod Bounded
+mod Bounded
 pub mod RankOrder
-pub mod WithinBounds
+mod WithinBounds
+pub mod PairLists

@@ -1,6 +1,5 @@
 -- the numbers of a further point are the dependency of the cell and that point
-use Rattle.std.proofs.Common.{◌≡◌, ℕ, zero, suc, ◌+◌, ◌*◌, ◌<◌, ◌≤◌, List, [], ◌∷◌, length, arith, refl, sym, ap, ap₂, subst, subst₂, ◌∙◌, ◌<ℤ◌, ◌≤ℤ◌}
-use Rattle.std.proofs.lemmas.Int.{ints}
+use Rattle.std.proofs.Common.{◌≡◌, ℕ, zero, suc, ◌+◌, ◌*◌, ◌<◌, ◌≤◌, List, [], ◌∷◌, length, arith, refl, sym, ap, ap₂, subst, subst₂, ◌∙◌, ◌<ℤ◌}
 use Rattle.std.proofs.lemmas.List.{length-map}
 use Rattle.std.proofs.Math.IntN.{ℤ, pos, neg_ℤ}
 use Rattle.int_vectors.specs.Vectors.{Each, sub, scale, dot}
@@ -12,7 +11,7 @@ use Rattle.reduced_rows.proofs.Outcome.{reduced_means}
 use Rattle.cayley.specs.Problems.{Point, Problem, IsProblem, point_at, HasSamePoints}
 use Rattle.cayley.specs.Cells.{Cell, IsOf}
 use Rattle.cayley.specs.Rows.{edge_rows}
-use Rattle.cayley.specs.Dependencies.{support_at, pair_at, IsFurtherAt, IsPositiveDependency}
+use Rattle.cayley.specs.Dependencies.{pair_at, IsFurtherAt, IsPositiveDependency, nth_support}
 use Rattle.cayley.proofs.OneCell.CellRows.{InRange, each_position, long_sub, rows_count, rows_width}
 use Rattle.cayley.proofs.OneCell.OneDependency.{pairs_from, numbers_of_rows}
 use Rattle.cayley.proofs.OneCell.Unperturbed.{point_unranked, support_unranked, same_rows, same_dimension, same_points, same_of, same_well, same_further}
@@ -30,12 +29,12 @@ pub length-columns : (m off l : ℕ) (made : List (List ℤ)) → length (scaled
 length-columns zero off l made = refl
 length-columns (suc m) off l made = ap suc (length-columns m (suc off) l made)
 
-length-column : (k j l : ℕ) (made : List (List ℤ)) → length (scaled_column k j l made) ≡ length made
+pub length-column : (k j l : ℕ) (made : List (List ℤ)) → length (scaled_column k j l made) ≡ length made
 unfolding scaled_column
 length-column k j l [] = refl
 length-column k j l (row ∷ made) = ap suc (length-column k (suc j) l made)
 
-columns_long : (m off l : ℕ) (made : List (List ℤ)) → Each (scaled_columns m off l made) (λ column. length column ≡ length made)
+pub columns_long : (m off l : ℕ) (made : List (List ℤ)) → Each (scaled_columns m off l made) (λ column. length column ≡ length made)
 columns_long zero off l made = tt
 columns_long (suc m) off l made = (length-column off 0 l made, columns_long m (suc off) l made)
 
@@ -57,7 +56,7 @@ products_count p cell well of made done d =
 pub length-difference : (p : Problem) (cell : Cell) (j c : ℕ) → IsProblem p → IsOf p cell → j < p.dimension → IsFurtherAt p cell j c → length (difference p cell j c) ≡ p.dimension
 length-difference p cell j c well of below further =
     let n = p.dimension in
-    let s = support_at p.supports j in
+    let s = nth_support p.supports j in
     let e = well.supports in
     let k = cell_long p.supports cell InRange of in
     let range = pair_range p.supports cell j (omega (arith, below, e, k)) of in
@@ -83,11 +82,11 @@ numbers_mean p cell j c well of below further made done positive xs is =
     (numbers_of_rows p cell j c well of bound (scale (neg_ℤ (pos 1)) ms) den positive (scaled_dependency p cell well of made r d (length-difference p cell j c well of below further)))
 
 -- the difference has no rank in it
-same_point : (p q : Problem) (j c : ℕ) → HasSamePoints p q → (point_at (support_at p.supports j) c).coordinates ≡ (point_at (support_at q.supports j) c).coordinates
+pub same_point : (p q : Problem) (j c : ℕ) → HasSamePoints p q → (point_at (nth_support p.supports j) c).coordinates ≡ (point_at (nth_support q.supports j) c).coordinates
 same_point p q j c e =
     ap (λ (x : Point). x.coordinates)
-    (sym (point_unranked (support_at p.supports j) c) ∙ ap (λ s. point_at s c) (sym (support_unranked p.supports j) ∙ ap (λ ss. support_at ss j) (same_points p q e) ∙ support_unranked q.supports j)
-    ∙ point_unranked (support_at q.supports j) c)
+    (sym (point_unranked (nth_support p.supports j) c) ∙ ap (λ s. point_at s c) (sym (support_unranked p.supports j) ∙ ap (λ ss. nth_support ss j) (same_points p q e) ∙ support_unranked q.supports j)
+    ∙ point_unranked (nth_support q.supports j) c)
 
 same_difference : (p q : Problem) (cell : Cell) (j c : ℕ) → HasSamePoints p q → difference p cell j c ≡ difference q cell j c
 same_difference p q cell j c e = ap₂ sub (same_point p q j c e) (same_point p q j (pair_at cell j).0 e)

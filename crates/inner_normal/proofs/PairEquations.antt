@@ -1,25 +1,25 @@
 -- numbers that solve the equations of a cell's pairs are its normal at every time
-use Rattle.std.proofs.Common.{◌≡◌, ℕ, zero, suc, List, [], ◌∷◌, length, arith, refl, sym, ap, ap₂, subst₂, ◌∙◌, ◌<ℤ◌}
-use Rattle.std.proofs.lemmas.Int.{ints}
+use Rattle.std.proofs.Common.{◌≡◌, ℕ, List, [], ◌∷◌, length, arith, refl, sym, ap, ap₂, subst₂, ◌∙◌, ◌<ℤ◌}
 use Rattle.std.proofs.lemmas.List.{length-map}
 use Rattle.std.proofs.Math.IntN.{ℤ, pos, ◌+ℤ◌, ◌-ℤ◌, ◌*ℤ◌, neg_ℤ, *ℤ-zero, *ℤ_comm}
-use Rattle.wide_int.proofs.Ring.{as_D, Ds, same_D, neg_mul_ℤ}
-use Rattle.int_vectors.specs.Vectors.{IsZero, add, sub, scale, dot, at}
+use Rattle.wide_int.proofs.Ring.{as_D, Ds, same_D}
+use Rattle.int_vectors.specs.Vectors.{IsZero, add, sub, scale, dot, at, entries_at}
+use Rattle.int_vectors.proofs.Entries.{length-scale, at-scale, at-add}
 use Rattle.cayley.specs.Times.{Time}
 use Rattle.cayley.specs.Problems.{Point, Problem, IsProblem, point_at, with_rank, unperturbed}
 use Rattle.cayley.specs.Cells.{Cell, EachPair, IsOf, IsIndependent}
-use Rattle.cayley.specs.Normals.{Normal, mark, height, gap, IsNormal}
+use Rattle.cayley.specs.Normals.{Normal, height, gap, IsNormal}
 use Rattle.cayley.specs.Mixed.{HasFirstEntries}
 use Rattle.cayley.proofs.Order.Lexicographic.{minus_one}
-use Rattle.cayley.proofs.Algebra.ScaledInverse.{at-add, at-scale, dot-add, dot-scale, length-scale}
-use Rattle.cayley.proofs.Algebra.RowNormals.{entry, gap-at, at-zero}
+use Rattle.cayley.proofs.Algebra.ScaledInverse.{dot-add, dot-scale}
+use Rattle.cayley.proofs.Algebra.RowNormals.{gap-at, at-zero}
 use Rattle.cayley.proofs.OneCell.CellNormals.{same_long}
-use Rattle.cayley.proofs.OneCell.OneNormal.{same_values}
-use Rattle.cayley.proofs.OneCell.MovingNormals as moved
+use Rattle.cayley.proofs.OneCell.OneNormal.{same_values, same_lists}
 use Rattle.cayley.proofs.OneCell.MovingNormals.{Moving, moving, wall, IsFrame, moving_normal}
 use Rattle.cayley.proofs.OneCell.Unperturbed.{same_unperturbed, same_well, same_of, same_independent, each_pair_unranked, point_unranked}
+use Rattle.cayley.proofs.Life.Targets.{height-first}
 use Rattle.inner_normal.specs.declared.moving.MovingNormal.{MovingNormal}
-use Rattle.inner_normal.specs.MovingNormals.{values, numerators, IsMovingNormal}
+use Rattle.inner_normal.specs.MovingNormals.{numerators, IsMovingNormal}
 
 abbrev pub difference : List Point → ℕ → ℕ → List ℤ
 difference s a b = sub (point_at s b).coordinates (point_at s a).coordinates
@@ -29,12 +29,6 @@ abbrev pub Levels : ℤ → List ℤ → List ℤ → List Point → ℕ → ℕ
 Levels den ps qs s a b =
     (dot (difference s a b) ps +ℤ den *ℤ ((point_at s b).base -ℤ (point_at s a).base) ≡ pos 0)
     × (dot (difference s a b) qs +ℤ den *ℤ ((point_at s b).speed -ℤ (point_at s a).speed) ≡ pos 0)
-
-pub each_pair_both : (P Q : List Point → ℕ → ℕ → Type 0) (supports : List (List Point)) (cell : Cell) → EachPair supports cell P → EachPair supports cell Q → EachPair supports cell (λ s a b. P s a b × Q s a b)
-each_pair_both P Q [] [] e f = tt
-each_pair_both P Q [] (x ∷ cell) e f = e
-each_pair_both P Q (s ∷ supports) [] e f = e
-each_pair_both P Q (s ∷ supports) (x ∷ cell) e f = ((e.0, f.0), each_pair_both P Q supports cell e.1 f.1)
 
 -- the two points of a pair are level at all times, where no rank counts
 level_wall : (m : Moving) (x y : Point) → dot (sub y.coordinates x.coordinates) m.starts +ℤ m.den *ℤ (y.base -ℤ x.base) ≡ pos 0
@@ -52,28 +46,11 @@ frame_of p cell m l e = (
       p.supports cell e,
 )
 
-values_are : (t : Time) (ps qs : List ℤ) → moved.values t ps qs ≡ values t ps qs
-values_are t [] qs = refl
-values_are t (p ∷ ps) [] = refl
-values_are t (p ∷ ps) (q ∷ qs) = ap (λ l. add ((t.over *ℤ p) ∷ []) (scale q t.entries) ∷ l) (values_are t ps qs)
-
 -- ---- entry 0, with any ranks
-first_mark : (q : ℤ) (r : ℕ) → at (mark q r) 0 ≡ pos 0
-first_mark q zero = refl
-first_mark q (suc r) = refl
-
-first_height : (t : Time) (x : Point) → at (height t x) 0 ≡ t.over *ℤ x.base +ℤ x.speed *ℤ at t.entries 0
-first_height t x =
-    at-add ((t.over *ℤ x.base) ∷ []) (add (scale x.speed t.entries) (mark t.over x.rank)) 0
-    ∙ ap (λ z. t.over *ℤ x.base +ℤ z) (at-add (scale x.speed t.entries) (mark t.over x.rank) 0 ∙ ap₂ ◌+ℤ◌ (at-scale x.speed t.entries 0) (first_mark t.over x.rank) ∙ none (x.speed *ℤ at t.entries 0))
-  where
-    none : (z : ℤ) → z +ℤ pos 0 ≡ z
-    none z = omega (arith, ints)
-
 pub first_rise : (t : Time) (x y : Point) → at (sub (height t y) (height t x)) 0 ≡ t.over *ℤ (y.base -ℤ x.base) +ℤ (y.speed -ℤ x.speed) *ℤ at t.entries 0
 first_rise t x y =
     at-add (height t y) (scale (neg_ℤ (pos 1)) (height t x)) 0
-    ∙ ap₂ ◌+ℤ◌ (first_height t y) (at-scale (neg_ℤ (pos 1)) (height t x) 0 ∙ minus_one _ ∙ ap neg_ℤ (first_height t x))
+    ∙ ap₂ ◌+ℤ◌ (height-first t y) (at-scale (neg_ℤ (pos 1)) (height t x) 0 ∙ minus_one _ ∙ ap neg_ℤ (height-first t x))
     ∙ step t.over y.base x.base y.speed x.speed (at t.entries 0)
   where
     step : (o a b s r z : ℤ) → o *ℤ a +ℤ s *ℤ z +ℤ neg_ℤ (o *ℤ b +ℤ r *ℤ z) ≡ o *ℤ (a -ℤ b) +ℤ (s -ℤ r) *ℤ z
@@ -87,14 +64,14 @@ first_flat : (t : Time) (v : Normal) (den : ℤ) (ps qs : List ℤ) (x y : Point
     → dot (sub y.coordinates x.coordinates) ps +ℤ den *ℤ (y.base -ℤ x.base) ≡ pos 0
     → dot (sub y.coordinates x.coordinates) qs +ℤ den *ℤ (y.speed -ℤ x.speed) ≡ pos 0
     → IsZero (gap t v x y)
-    → dot (sub y.coordinates x.coordinates) (add (scale v.over (numerators t ps qs)) (scale (neg_ℤ (t.over *ℤ den)) (entry 0 v.entries))) ≡ pos 0
+    → dot (sub y.coordinates x.coordinates) (add (scale v.over (numerators t ps qs)) (scale (neg_ℤ (t.over *ℤ den)) (entries_at 0 v.entries))) ≡ pos 0
 first_flat t v den ps qs x y e f g =
     let d = sub y.coordinates x.coordinates in
-    let h : t.over *ℤ dot d (entry 0 v.entries) +ℤ v.over *ℤ (t.over *ℤ (y.base -ℤ x.base) +ℤ (y.speed -ℤ x.speed) *ℤ at t.entries 0) ≡ pos 0 =
-    ap (λ z. t.over *ℤ dot d (entry 0 v.entries) +ℤ v.over *ℤ z) (sym (first_rise t x y)) ∙ sym (gap-at d v.entries (sub (height t y) (height t x)) t.over v.over 0) ∙ at-zero (gap t v x y) 0 g in
-    dot-add d (scale v.over (numerators t ps qs)) (scale (neg_ℤ (t.over *ℤ den)) (entry 0 v.entries))
-    ∙ ap₂ ◌+ℤ◌ (dot-scale d v.over (numerators t ps qs) ∙ ap (λ z. v.over *ℤ z) (dot_numerators t d ps qs)) (dot-scale d (neg_ℤ (t.over *ℤ den)) (entry 0 v.entries))
-    ∙ together v.over t.over (at t.entries 0) den (dot d ps) (dot d qs) (dot d (entry 0 v.entries)) (y.base -ℤ x.base) (y.speed -ℤ x.speed) e f h
+    let h : t.over *ℤ dot d (entries_at 0 v.entries) +ℤ v.over *ℤ (t.over *ℤ (y.base -ℤ x.base) +ℤ (y.speed -ℤ x.speed) *ℤ at t.entries 0) ≡ pos 0 =
+    ap (λ z. t.over *ℤ dot d (entries_at 0 v.entries) +ℤ v.over *ℤ z) (sym (first_rise t x y)) ∙ sym (gap-at d v.entries (sub (height t y) (height t x)) t.over v.over 0) ∙ at-zero (gap t v x y) 0 g in
+    dot-add d (scale v.over (numerators t ps qs)) (scale (neg_ℤ (t.over *ℤ den)) (entries_at 0 v.entries))
+    ∙ ap₂ ◌+ℤ◌ (dot-scale d v.over (numerators t ps qs) ∙ ap (λ z. v.over *ℤ z) (dot_numerators t d ps qs)) (dot-scale d (neg_ℤ (t.over *ℤ den)) (entries_at 0 v.entries))
+    ∙ together v.over t.over (at t.entries 0) den (dot d ps) (dot d qs) (dot d (entries_at 0 v.entries)) (y.base -ℤ x.base) (y.speed -ℤ x.speed) e f h
   where
     ring : (w o z d a b c r s : ℤ) → w *ℤ (o *ℤ a +ℤ z *ℤ b) +ℤ neg_ℤ (o *ℤ d) *ℤ c ≡ w *ℤ o *ℤ (a +ℤ d *ℤ r) +ℤ (w *ℤ z *ℤ (b +ℤ d *ℤ s) +ℤ neg_ℤ d *ℤ (o *ℤ c +ℤ w *ℤ (o *ℤ r +ℤ s *ℤ z)))
     ring w o z d a b c r s = rw (as_D w, as_D o, as_D z, as_D d, as_D a, as_D b, as_D c, as_D r, as_D s) (simp Ds (same_D _ _ _ _ (omega arith)))
@@ -104,14 +81,6 @@ first_flat t v den ps qs x y e f g =
     together w o z d a b c r s e f h = ring w o z d a b c r s ∙ rw (e, f, h) (rw (*ℤ-zero (w *ℤ o), *ℤ-zero (w *ℤ z), *ℤ-zero (neg_ℤ d)) refl)
 
 -- a difference that is zero, of lists of one length
-equal_multiples : (a b : ℤ) (xs ys : List ℤ) → length xs ≡ length ys → IsZero (add (scale a xs) (scale (neg_ℤ b) ys)) → scale a xs ≡ scale b ys
-equal_multiples a b [] [] l z = refl
-equal_multiples a b [] (y ∷ ys) l z = absurd (omega (arith, l))
-equal_multiples a b (x ∷ xs) [] l z = absurd (omega (arith, l))
-equal_multiples a b (x ∷ xs) (y ∷ ys) l z =
-    let h : a *ℤ x ≡ b *ℤ y = (let e = z.0 in let n = neg_mul_ℤ b y in omega (arith, ints, e, n)) in
-    ap₂ (λ u us. u ∷ us) h (equal_multiples a b xs ys (omega (arith, l)) z.1)
-
 module _ (p : Problem) (cell : Cell) (well : IsProblem p) (of : IsOf p cell) (ind : IsIndependent p cell) (m : MovingNormal) (positive : pos 0 <ℤ m.den)
     (lp : length m.p ≡ p.dimension) (lq : length m.q ≡ p.dimension) (levels : EachPair p.supports cell (Levels m.den m.p m.q)) where
   long_numerators : (t : Time) → length (numerators t m.p m.q) ≡ p.dimension
@@ -119,13 +88,13 @@ module _ (p : Problem) (cell : Cell) (well : IsProblem p) (of : IsOf p cell) (in
 
   first_of : (t : Time) (v : Normal) → IsNormal p cell t v → HasFirstEntries v (numerators t m.p m.q) (t.over *ℤ m.den)
   first_of t v n =
-      let l : length (entry 0 v.entries) ≡ p.dimension = length-map v.entries (λ w. at w 0) ∙ n.0 in
-      equal_multiples v.over (t.over *ℤ m.den) (numerators t m.p m.q) (entry 0 v.entries) (long_numerators t ∙ sym l)
-      (ind _ (same_long (scale v.over (numerators t m.p m.q)) (scale (neg_ℤ (t.over *ℤ m.den)) (entry 0 v.entries)) p.dimension (length-scale v.over (numerators t m.p m.q) ∙ long_numerators t) (length-scale (neg_ℤ (t.over *ℤ m.den)) (entry 0 v.entries) ∙ l))
+      let l : length (entries_at 0 v.entries) ≡ p.dimension = length-map v.entries (λ w. at w 0) ∙ n.0 in
+      same_lists v.over (t.over *ℤ m.den) (numerators t m.p m.q) (entries_at 0 v.entries) (long_numerators t ∙ sym l)
+      (ind _ (same_long (scale v.over (numerators t m.p m.q)) (scale (neg_ℤ (t.over *ℤ m.den)) (entries_at 0 v.entries)) p.dimension (length-scale v.over (numerators t m.p m.q) ∙ long_numerators t) (length-scale (neg_ℤ (t.over *ℤ m.den)) (entries_at 0 v.entries) ∙ l))
       (each_flat p.supports cell n.1 levels))
     where
       each_flat : (supports : List (List Point)) (cell : Cell) → EachPair supports cell (λ s a b. IsZero (gap t v (point_at s a) (point_at s b))) → EachPair supports cell (Levels m.den m.p m.q)
-          → EachPair supports cell (λ s a b. dot (difference s a b) (add (scale v.over (numerators t m.p m.q)) (scale (neg_ℤ (t.over *ℤ m.den)) (entry 0 v.entries))) ≡ pos 0)
+          → EachPair supports cell (λ s a b. dot (difference s a b) (add (scale v.over (numerators t m.p m.q)) (scale (neg_ℤ (t.over *ℤ m.den)) (entries_at 0 v.entries))) ≡ pos 0)
       each_flat [] [] g e = tt
       each_flat [] (x ∷ cell) g e = g
       each_flat (s ∷ supports) [] g e = g
@@ -148,7 +117,7 @@ module _ (p : Problem) (cell : Cell) (well : IsProblem p) (of : IsOf p cell) (in
         long = (lp, lq);
         whole = λ t. (
           moving mo t,
-          (*ℤ_comm m.den t.over, values_are t m.p m.q),
+          (*ℤ_comm m.den t.over, refl),
           normal t,
           λ v n. same_values (unperturbed p) cell t (moving mo t) v w o i (normal t) n,
         );

@@ -6,6 +6,7 @@ use Rattle.int_vectors.specs.Vectors.{at, scale}
 use Rattle.cayley.specs.Cells.{Cell}
 use Rattle.cayley.specs.Dependencies.{number_at}
 use Rattle.cayley.proofs.OneCell.OneDependency.{even_pairs, pairs_from}
+use Rattle.cayley.proofs.Order.Lexicographic.{minus_one}
 use Rattle.inner_normal.specs.Coefficients.{pairs_of, last_of}
 use Rattle.inner_normal.specs.Coefficients.{less_own, coefficients_from}
 
@@ -21,9 +22,6 @@ last-coefficients i j den (m ∷ ms) = last-coefficients (suc i) j den ms
 pub length-coefficients : (i j : ℕ) (den : ℤ) (ms : List ℤ) → length (coefficients_from i j den ms) ≡ 2 * length ms + 1
 length-coefficients i j den [] = refl
 length-coefficients i j den (m ∷ ms) = let e = length-coefficients (suc i) j den ms in omega (arith, e)
-
-minus_one : (m : ℤ) → neg_ℤ (pos 1) *ℤ m ≡ neg_ℤ m
-minus_one m = omega (arith, ints)
 
 twice : (m : ℤ) → m ≡ neg_ℤ (neg_ℤ (pos 1) *ℤ m)
 twice m = let e = minus_one m in omega (arith, ints, e)

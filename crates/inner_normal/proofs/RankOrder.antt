@@ -1,27 +1,22 @@
 -- where the ranks of the points rise in order of support and position, the first number other than zero tells the sign of the sum of heights
-use Rattle.std.proofs.Common.{◌≡◌, ◌≢◌, ◌↔◌, ℕ, zero, suc, ◌+◌, ◌-◌, ◌<◌, ◌≤◌, ◌==◌, ◌++◌, Bool, true, false, if◌then◌else◌, List, [], ◌∷◌, length, map, arith, refl, sym, ap, ap₂, subst, ◌∙◌, inl, inr, ◌<ℤ◌}
+use Rattle.std.proofs.Common.{◌≡◌, ◌≢◌, ◌↔◌, ℕ, zero, suc, ◌+◌, ◌-◌, ◌<◌, ◌≤◌, ◌==◌, ◌++◌, Bool, true, false, if◌then◌else◌, List, [], ◌∷◌, length, map, arith, refl, sym, ap, ap₂, ◌∙◌, inl, inr}
 use Rattle.std.specs.Prelude.{nat_lt}
 use Rattle.std.proofs.lemmas.Bool.{ne_eqb, eq-eqb, ltb-true, ltb-false}
 use Rattle.std.proofs.lemmas.List.{map-append}
 use Rattle.std.proofs.lemmas.Int.{ints}
 use Rattle.std.proofs.Math.IntN.{ℤ, pos, ◌+ℤ◌, ◌*ℤ◌, *ℤ-zero}
-use Rattle.int_vectors.specs.Vectors.{IsPositive, at, at_place}
+use Rattle.int_vectors.specs.Vectors.{IsPositive, at}
 use Rattle.cayley.specs.Problems.{Point, point_at}
 use Rattle.cayley.specs.Cells.{Cell, EachPair, IsFurther}
-use Rattle.cayley.specs.Dependencies.{total, support_at, pair_at}
+use Rattle.cayley.specs.Dependencies.{total, pair_at, nth_support}
 use Rattle.cayley.specs.Normals.{mark}
 use Rattle.cayley.proofs.OneCell.RaisedRanks.{after_zeros}
 use Rattle.cayley.proofs.Order.Lexicographic.{positive-same}
 use Rattle.inner_normal.specs.Orders.{two, three, in_order}
 use native.Mathlib.Decide.{dec_le}
-
-by_test : {P : Type 0} (b : Bool) → (b ≡ true → P) → (b ≡ false → P) → P
-by_test true f g = f refl
-by_test false f g = g refl
-
--- ---- lists of a rank and a number
-abbrev pub Ranked : Type 0
-Ranked = ℕ × ℤ
+use Rattle.wide_int.proofs.Bools.{by_test}
+use Rattle.int_vectors.proofs.Entries.{at_own, at_other}
+use Rattle.inner_normal.specs.RankedNumbers.{Ranked, ranked}
 
 -- the ranks rise from b on
 abbrev pub Rise : ℕ → List Ranked → Type 0
@@ -73,23 +68,13 @@ past_zeros zero m k u e = ap (at u) (let h : k ≡ m = omega (arith, e) in h)
 past_zeros (suc d) m zero u e = absurd (omega (arith, e))
 past_zeros (suc d) m (suc k) u e = past_zeros d m k u (omega (arith, e))
 
-own_place : (r : ℕ) (q : ℤ) → at (at_place r q) r ≡ q
-own_place zero q = refl
-own_place (suc r) q = own_place r q
-
-other_place : (r e : ℕ) (q : ℤ) → e ≢ r → at (at_place r q) e ≡ pos 0
-other_place zero zero q n = absurd (n refl)
-other_place zero (suc e) q n = refl
-other_place (suc r) zero q n = refl
-other_place (suc r) (suc e) q n = other_place r e q (λ h. n (ap suc h))
-
 own_mark : (r : ℕ) (q : ℤ) → 1 ≤ r → at (mark q r) r ≡ q
 own_mark zero q l = absurd (omega (arith, l))
-own_mark (suc r) q l = own_place r q
+own_mark (suc r) q l = at_own r q
 
 other_mark : (r e : ℕ) (q : ℤ) → e ≢ r → at (mark q r) e ≡ pos 0
 other_mark zero e q n = refl
-other_mark (suc r) e q n = other_place (suc r) e q n
+other_mark (suc r) e q n = at_other (suc r) e q n
 
 -- nothing stands before the first rank
 none_before : (b e : ℕ) (xs : List Ranked) → Rise b xs → e < b → sum_in e xs ≡ pos 0
@@ -146,18 +131,11 @@ sign_in u xs r z h =
     entry (suc e) = h e ∙ sym (spread_at 1 e (suc e) xs (omega arith) r (omega arith))
 
 -- ---- the list of a dependency
-abbrev pub ranked : List Point → ℕ → ℤ → Ranked
-ranked s position number = ((point_at s position).rank, number)
-
 abbrev pub ranked_pairs : List (ℤ × ℤ) → List (List Point) → Cell → List (Ranked × Ranked)
 ranked_pairs [] supports cell = []
 ranked_pairs (m ∷ ms) [] cell = []
 ranked_pairs (m ∷ ms) (s ∷ supports) [] = []
 ranked_pairs (m ∷ ms) (s ∷ supports) (x ∷ cell) = (ranked s x.0 m.0, ranked s x.1 m.1) ∷ ranked_pairs ms supports cell
-
--- its numbers
-number : Ranked → ℤ
-number x = x.1
 
 numbers_three : (pair : ℕ × ℕ) (m : Ranked × Ranked) (c : ℕ) (g : Ranked) → numbers_in (three pair m c g) ≡ three pair (m.0.1, m.1.1) c g.1
 numbers_three pair m c g = by (nat_lt c pair.0) (nat_lt c pair.1)
@@ -292,8 +270,8 @@ rise_after b i j c g (m ∷ ms) (s ∷ supports) (x ∷ cell) l h e =
     rw f (rise_two b s h.0 x m e.0 (in_order (suc i) j c g (ranked_pairs ms supports cell) cell) (rise_after (b + length s) (suc i) j c g ms supports cell (omega (arith, l)) h.1 e.1))
 
 pub rise_is : (b i d j c : ℕ) (g : ℤ) (ms : List (ℤ × ℤ)) (supports : List (List Point)) (cell : Cell) → j ≡ i + d → HaveRanksFrom b supports → EachPair supports cell InRange
-    → IsFurther (support_at supports d) (pair_at cell d).0 (pair_at cell d).1 c
-    → Rise b (in_order i j c (ranked (support_at supports d) c g) (ranked_pairs ms supports cell) cell)
+    → IsFurther (nth_support supports d) (pair_at cell d).0 (pair_at cell d).1 c
+    → Rise b (in_order i j c (ranked (nth_support supports d) c g) (ranked_pairs ms supports cell) cell)
 rise_is b i d j c g [] supports cell k h e u = tt
 rise_is b i d j c g (m ∷ ms) [] cell k h e u = tt
 rise_is b i d j c g (m ∷ ms) (s ∷ supports) [] k h e u = tt
@@ -303,5 +281,5 @@ rise_is b i zero j c g (m ∷ ms) (s ∷ supports) (x ∷ cell) k h e u =
     (rise_after (b + length s) (suc i) j c (ranked s c g) ms supports cell (omega (arith, k)) h.1 e.1) c g u)
 rise_is b i (suc d) j c g (m ∷ ms) (s ∷ supports) (x ∷ cell) k h e u =
     let f = ne_eqb i j (λ n. omega (arith, k, n)) in
-    rw f (rise_two b s h.0 x m e.0 (in_order (suc i) j c (ranked (support_at supports d) c g) (ranked_pairs ms supports cell) cell)
+    rw f (rise_two b s h.0 x m e.0 (in_order (suc i) j c (ranked (nth_support supports d) c g) (ranked_pairs ms supports cell) cell)
     (rise_is (b + length s) (suc i) d j c g ms supports cell (omega (arith, k)) h.1 e.1 u))

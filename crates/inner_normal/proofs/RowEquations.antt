@@ -2,8 +2,8 @@
 use Rattle.std.proofs.Common.{◌≡◌, ℕ, suc, ◌+◌, ◌<◌, List, [], ◌∷◌, ◌++◌, length, unsigned_abs, arith, refl, sym, ap, ap₂, subst, subst₂, ◌∙◌, ◌<ℤ◌}
 use Rattle.std.proofs.Math.IntN.{ℤ, pos, ◌+ℤ◌, ◌-ℤ◌, ◌*ℤ◌}
 use Rattle.wide_int.proofs.Ring.{as_D, Ds, same_D, D-pos}
-use Rattle.int_vectors.specs.Vectors.{Each, dot, IsOrthogonal}
-use Rattle.reduced_rows.specs.Denominators.{shares, zeros}
+use Rattle.int_vectors.specs.Vectors.{Each, dot, IsOrthogonal, zeros}
+use Rattle.reduced_rows.specs.Denominators.{shares}
 use Rattle.reduced_rows.specs.CellRefusals.{IsEliminated}
 use Rattle.reduced_rows.specs.Spans.{IsReducedOf}
 use Rattle.reduced_rows.specs.Steps.{OfLength}
@@ -15,10 +15,11 @@ use Rattle.cayley.specs.Cells.{Cell, EachPair, IsOf}
 use Rattle.cayley.specs.Rows.{edge_rows}
 use Rattle.cayley.proofs.OneCell.CellRows.{pairs_orthogonal, rows_independent, rows_count, rows_width}
 use Rattle.cayley.proofs.Order.Soon.{each_pair-map}
+use Rattle.cayley.proofs.Flipping.FlipNeighbours.{both_pairs}
 use Rattle.inner_normal.specs.declared.moving.MovingNormal.{MovingNormal}
 use Rattle.inner_normal.specs.MovingNormals.{IsMovingNormal}
 use Rattle.inner_normal.specs.Workings.{denominator, IsNormalFrom}
-use Rattle.inner_normal.proofs.PairEquations.{difference, each_pair_both, moving_of}
+use Rattle.inner_normal.proofs.PairEquations.{difference, moving_of}
 
 append_assoc : (xs ys zs : List ℤ) → (xs ++ ys) ++ zs ≡ xs ++ (ys ++ zs)
 append_assoc [] ys zs = refl
@@ -96,7 +97,7 @@ module _ (p : Problem) (cell : Cell) (well : IsProblem p) (of : IsOf p cell) (ma
     pub moving_from : pos 0 <ℤ m.den → IsMovingNormal p cell m
     moving_from positive =
         moving_of p cell well of (rows_independent p cell well of reduced_of.independent) m positive lp lq
-        (each_pair_both (λ s a b. dot (difference s a b) m.p +ℤ m.den *ℤ ((point_at s b).base -ℤ (point_at s a).base) ≡ pos 0)
+        (both_pairs (λ s a b. dot (difference s a b) m.p +ℤ m.den *ℤ ((point_at s b).base -ℤ (point_at s a).base) ≡ pos 0)
         (λ s a b. dot (difference s a b) m.q +ℤ m.den *ℤ ((point_at s b).speed -ℤ (point_at s a).speed) ≡ pos 0) p.supports cell rest_levels moving_levels)
 
 -- the two solutions over the denominator are the numbers of the working

@@ -8,7 +8,7 @@ use Rattle.cayley.specs.Cells.{Cell, EachPair, IsOf}
 use Rattle.cayley.specs.Rows.{unit_row, edge_rows_from, edge_rows}
 use Rattle.cayley.proofs.OneCell.CellRows.{HaveLength, InRange, edge_long}
 
-at-past : (xs ys : List ℤ) (m k : ℕ) → m ≡ length xs + k → at (xs ++ ys) m ≡ at ys k
+pub at-past : (xs ys : List ℤ) (m k : ℕ) → m ≡ length xs + k → at (xs ++ ys) m ≡ at ys k
 at-past [] ys m k e = let f : m ≡ k = omega (arith, e) in ap (at ys) f
 at-past (x ∷ xs) ys zero k e = absurd (omega (arith, e))
 at-past (x ∷ xs) ys (suc m) k e = at-past xs ys m k (omega (arith, e))

@@ -11,10 +11,10 @@ use Rattle.reduced_rows.specs.Spans.{IsReducedOf}
 use Rattle.reduced_rows.proofs.InverseSums.{inverse_columns}
 use Rattle.cayley.specs.Problems.{Point, Problem, IsProblem, point_at}
 use Rattle.cayley.specs.Cells.{Cell, EachPair, IsOf}
-use Rattle.cayley.specs.Rows.{edge_rows_from, edge_rows}
-use Rattle.cayley.proofs.OneCell.CellNormals.{edges}
+use Rattle.cayley.specs.Rows.{edge_rows_from, edge_rows, edges}
 use Rattle.cayley.proofs.OneCell.CellRows.{HaveLength, InRange, edge_long, dot-front, rows_count}
 use Rattle.cayley.proofs.Algebra.RowDependencies.{IsDependency}
+use Rattle.cayley.proofs.Algebra.ScaledInverse.{dot-nil}
 use Rattle.inner_normal.specs.Inverses.{scaled_columns, inverse_of}
 use Rattle.inner_normal.specs.Coefficients.{products}
 use Rattle.inner_normal.proofs.RowUnits.{rows_units}
@@ -24,10 +24,6 @@ products_are : (m off l : ℕ) (made : List (List ℤ)) (v : List ℤ) → colum
 unfolding column_products
 products_are zero off l made v = refl
 products_are (suc m) off l made v = ap (λ xs. dot v (scaled_column off 0 l made) ∷ xs) (products_are m (suc off) l made v)
-
-dot-nothing : (xs : List ℤ) → dot xs [] ≡ pos 0
-dot-nothing [] = refl
-dot-nothing (x ∷ xs) = refl
 
 -- a product from a place on
 dot-place : (r : List ℤ) (k : ℕ) (y : ℤ) (ys : List ℤ) → dot (drop k r) (y ∷ ys) ≡ y *ℤ at r k +ℤ pos 1 *ℤ dot (drop (suc k) r) ys
@@ -48,7 +44,7 @@ module _ (ms : List ℤ) (rows : List (List ℤ)) (d : List ℤ) (g : ℤ) (n : 
 
   from_place : (y : List ℤ) (k : ℕ) → k + length y ≤ n → g *ℤ dot (drop k d) y ≡ weigh ms rows (λ r. dot (drop k r) y)
   from_place [] k l =
-      ap (λ z. g *ℤ z) (dot-nothing (drop k d)) ∙ zero_right g ∙ sym (weigh-same ms rows (λ r. dot (drop k r) []) (λ r. pos 0) (λ r. dot-nothing (drop k r)) ∙ weigh-nothing ms rows)
+      ap (λ z. g *ℤ z) (dot-nil (drop k d)) ∙ zero_right g ∙ sym (weigh-same ms rows (λ r. dot (drop k r) []) (λ r. pos 0) (λ r. dot-nil (drop k r)) ∙ weigh-nothing ms rows)
     where
       zero_right : (g : ℤ) → g *ℤ pos 0 ≡ pos 0
       zero_right g = omega (arith, ints)

@@ -1,16 +1,16 @@
 -- The numbers of a cell's dependency with one further point, over unbounded whole numbers. Places j count from 0, positions c from 1.
-use Rattle.std.specs.Prelude.{◌≡◌, ℕ, zero, suc, List, [], ◌∷◌, map, ℤ, pos, ◌-ℤ◌, neg_ℤ}
+use Rattle.std.specs.Prelude.{ℕ, zero, suc, List, [], ◌∷◌, map, ℤ, pos, ◌-ℤ◌, neg_ℤ}
 use Rattle.wide_int.specs.Whole.{FitsWhole}
 use Rattle.int_vectors.specs.Fits.{FitsDot}
 use Rattle.int_vectors.specs.Vectors.{Each, at, sub, dot}
 use Rattle.cayley.specs.Problems.{Problem, point_at}
 use Rattle.cayley.specs.Cells.{Cell}
-use Rattle.cayley.specs.Dependencies.{Numbers, support_at, pair_at}
+use Rattle.cayley.specs.Dependencies.{Numbers, pair_at, nth_support}
 use Rattle.inner_normal.specs.Inverses.{Inverse, inverse_of, FitsInverse}
 
 -- the further point c of support j less the first point of its pair
 abbrev pub difference : Problem → Cell → ℕ → ℕ → List ℤ
-difference p cell j c = sub (point_at (support_at p.supports j) c).coordinates (point_at (support_at p.supports j) (pair_at cell j).0).coordinates
+difference p cell j c = sub (point_at (nth_support p.supports j) c).coordinates (point_at (nth_support p.supports j) (pair_at cell j).0).coordinates
 
 -- the products M_i of the difference and the columns
 abbrev pub products : List ℤ → List (List ℤ) → List ℤ

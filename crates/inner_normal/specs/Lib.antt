@@ -5,3 +5,4 @@ pub mod Inverses
 pub mod Coefficients
 pub mod Orders
 pub mod LeastDenominators
+pub mod RankedNumbers

@@ -1,18 +1,12 @@
 -- The normal of a cell at all times.
-use Rattle.std.specs.Prelude.{◌≡◌, List, [], ◌∷◌, length, ℤ, pos, ◌*ℤ◌, ◌<ℤ◌}
+use Rattle.std.specs.Prelude.{◌≡◌, List, length, ℤ, pos, ◌*ℤ◌, ◌<ℤ◌}
 use Rattle.int_vectors.specs.Vectors.{add, scale, at}
 use Rattle.cayley.specs.Times.{Time}
 use Rattle.cayley.specs.Problems.{Problem, IsProblem, unperturbed}
 use Rattle.cayley.specs.Cells.{Cell, IsOf, IsIndependent}
-use Rattle.cayley.specs.Normals.{Normal, IsNormal, HasSameValues}
+use Rattle.cayley.specs.Normals.{Normal, IsNormal, HasSameValues, values}
 use Rattle.cayley.specs.Mixed.{HasFirstEntries}
 use Rattle.inner_normal.specs.declared.moving.MovingNormal.{MovingNormal}
-
--- the values Q p + P q at the time P / Q, each with as many entries as the time
-abbrev pub values : Time → List ℤ → List ℤ → List (List ℤ)
-values t [] qs = []
-values t (p ∷ ps) [] = []
-values t (p ∷ ps) (q ∷ qs) = add ((t.over *ℤ p) ∷ []) (scale q t.entries) ∷ values t ps qs
 
 -- the numbers Q p + P q, with entry 0 of the time in the place of P
 abbrev pub numerators : Time → List ℤ → List ℤ → List ℤ

@@ -111,6 +111,21 @@ impl ScaledInverse {
         }
     }
 
+    /// The inverse that these columns are over this number, which is at least 1. It isn't tested of
+    /// what they are the inverse.
+    pub fn given(den: i128, columns: Vec<IntVec>) -> ScaledInverse
+        requires fits { FitsWhole den }
+        requires positive { pos 0 <ℤ den }
+        ensures { result ≡ record { den = den; columns = columns.items } }
+    {
+        let bounded = are_bounded(den, &columns);
+        ScaledInverse {
+            den,
+            columns,
+            bounded,
+        }
+    }
+
     /// The common denominator, at least 1.
     pub fn den(&self) -> i128
         ensures value { result ≡ self.now.den }
@@ -120,9 +135,10 @@ impl ScaledInverse {
         self.den
     }
 
-    // The coefficients of the cell and the point `c` against `a`, the first point of the pair in the
-    // support at `place`, which counts from 0.
-    pub(crate) fn coefficients(
+    /// The numbers of a further point `c` against `a`, the first point of the pair in the support at
+    /// `place`, which counts from 0: those of a1, b1, .., an, bn and of the further point, where
+    /// (a_i, b_i) is the pair of support i. `Overflow` exactly where one of them doesn't fit.
+    pub fn coefficients(
         &self,
         alloc: Global,
         c: &[i128],

@@ -13,7 +13,7 @@ mod normals;
 
 pub use cayley::Normal;
 pub use eliminated::Eliminated;
-pub use further::{coefficients_at, coefficients_fit_at};
+pub use further::{coefficients_at, coefficients_by, coefficients_fit_at};
 pub use inverses::ScaledInverse;
 pub use laws::least_denominator;
 pub use lowest::{in_lowest_terms, target_normal};

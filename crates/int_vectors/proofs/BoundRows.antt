@@ -1,5 +1,5 @@
 -- sums and bounds of a row, and one step on a row
-use Rattle.std.proofs.Common.{◌≡◌, ℕ, zero, suc, ◌+◌, ◌*◌, ◌^◌, ◌<◌, ◌≤◌, ℤ, pos, ◌*ℤ◌, ◌-ℤ◌, unsigned_abs, List, [], ◌∷◌, ◌++◌, length, get_or, take, drop, refl, sym, ap, ap₂, subst, ◌∙◌, arith, take_all, drop_of_length-le, append-nil}
+use Rattle.std.proofs.Common.{◌≡◌, ℕ, zero, suc, ◌+◌, ◌*◌, ◌^◌, ◌<◌, ◌≤◌, ℤ, pos, ◌*ℤ◌, ◌-ℤ◌, unsigned_abs, List, [], ◌∷◌, ◌++◌, length, get_or, take, drop, sym, ap, ap₂, subst, ◌∙◌, arith, take_all, drop_of_length-le, append-nil}
 use Rattle.std.proofs.lemmas.Int.{unsigned_abs-mul}
 use Rattle.std.proofs.lemmas.List.{take_more}
 use Rattle.int_vectors.specs.RowSteps.{eliminated, FitsEliminated}
@@ -8,8 +8,9 @@ use Rattle.int_vectors.specs.Fits.{AllFit}
 use Rattle.int_vectors.proofs.Fitting.{fits-eliminated}
 use Rattle.int_vectors.proofs.TakingOff.{off_read}
 use Rattle.int_vectors.proofs.BoundSums.{abs_sub, mul_le}
+use Rattle.int_vectors.specs.Vectors.{at}
 
-size-append : (xs : List ℤ) (x : ℤ) → size (xs ++ x ∷ []) ≡ size xs + unsigned_abs x
+pub size-append : (xs : List ℤ) (x : ℤ) → size (xs ++ x ∷ []) ≡ size xs + unsigned_abs x
 size-append [] x = omega arith
 size-append (y ∷ xs) x = let e = size-append xs x in omega (arith, e)
 
@@ -68,12 +69,6 @@ step_fits p f [] ys r = tt
 step_fits p f (x ∷ xs) [] r = tt
 step_fits p f (x ∷ xs) (y ∷ ys) r = (place_below (2 ^ 127) r.0 r.1 p f x y r.4 r.2.0 r.3.0, step_fits p f xs ys (r.0, r.1, r.2.1, r.3.1, r.4))
 
-length-eliminated : (p f : ℤ) (xs ys : List ℤ) → length xs ≡ length ys → length (eliminated p f xs ys) ≡ length xs
-unfolding eliminated
-length-eliminated p f [] ys e = refl
-length-eliminated p f (x ∷ xs) [] e = absurd (omega arith)
-length-eliminated p f (x ∷ xs) (y ∷ ys) e = ap suc (length-eliminated p f xs ys (omega arith))
-
 -- a place of a loop that rewrites a row
 pub off_below : (p f : ℤ) (old by now : List ℤ) (i : ℕ) (e : length old ≡ length by) (lt : i < length old) (is : now ≡ eliminated p f (take i old) (take i by) ++ drop i old) (m : ℕ) → StepRoom m p f old by
     → (unsigned_abs (p *ℤ get_or now i (pos 0)) < m) × (unsigned_abs (f *ℤ get_or by i (pos 0)) < m) × (unsigned_abs (p *ℤ get_or now i (pos 0) -ℤ f *ℤ get_or by i (pos 0)) < m)
@@ -108,3 +103,8 @@ step_wider p f xs ys (u, v, hu, hv, (hp, hf, ku, kv, h)) = (u, v, hu, hv, below 
   where
     below : (a b : ℕ) → a + b < 2 ^ 62 → a + b < 2 ^ 127
     below a b h = omega (arith, h)
+
+pub within_entry : (w : ℕ) (xs : List ℤ) (e : ℕ) → Within w xs → unsigned_abs (at xs e) ≤ w
+within_entry w [] e h = omega arith
+within_entry w (x ∷ xs) zero h = h.0
+within_entry w (x ∷ xs) (suc e) h = within_entry w xs e h.1

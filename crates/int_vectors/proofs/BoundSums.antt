@@ -1,10 +1,9 @@
 -- sums of absolute values
 use Rattle.std.proofs.Common.{◌≡◌, ℕ, zero, suc, ◌+◌, ◌-◌, ◌*◌, ◌^◌, ◌<◌, ◌≤◌, ℤ, pos, negsuc, ◌+ℤ◌, ◌*ℤ◌, ◌-ℤ◌, neg_ℤ, unsigned_abs, List, [], ◌∷◌, length, get_or, drop, refl, ap, subst, arith, drop-cons, add-one}
 use Rattle.std.proofs.lemmas.Int.{ints, unsigned_abs-mul}
-use Rattle.wide_int.specs.Whole.{FitsWhole}
 use Rattle.int_vectors.specs.Vectors.{dot}
 use Rattle.int_vectors.specs.Fits.{FitsDot}
-use Rattle.int_vectors.specs.Bounds.{size, Within, SumBelow, Room}
+use Rattle.int_vectors.specs.Bounds.{size, Within, Room}
 use borrow.Author.Differences.{up, down, sum_is_lem}
 
 pub abs_neg : (a : ℤ) → unsigned_abs (neg_ℤ a) ≡ unsigned_abs a
@@ -42,7 +41,7 @@ room_step m t x y xs ys r =
     r.2 r.1.0 (unsigned_abs-mul x y) (abs_add t (x *ℤ y)) in
     (s.0, s.1, (r.0, r.1.1, s.2))
 
-start_below : (m : ℕ) (t : ℤ) (xs ys : List ℤ) → Room m t xs ys → unsigned_abs t < m
+pub start_below : (m : ℕ) (t : ℤ) (xs ys : List ℤ) → Room m t xs ys → unsigned_abs t < m
 start_below m t xs ys r = let h = r.2 in step (unsigned_abs t) (size xs * r.0) m h
   where
     step : (a b m : ℕ) → a + b < m → a < m
@@ -74,32 +73,6 @@ abs_dot w (x ∷ xs) [] h = omega arith
 abs_dot w (x ∷ xs) (y ∷ ys) h =
     abs_step (unsigned_abs x) (unsigned_abs y) w (size xs) (unsigned_abs (x *ℤ y)) (unsigned_abs (dot xs ys)) (unsigned_abs (x *ℤ y +ℤ dot xs ys))
     h.0 (unsigned_abs-mul x y) (abs_dot w xs ys h.1) (abs_add (x *ℤ y) (dot xs ys))
-
--- a smaller start; the sum beside the start
-less_start : (a n m : ℕ) → a + n < m → 0 + n < m
-less_start a n m h = omega arith
-
-ends_below : (a n d t m : ℕ) → a + n < m → d ≤ n → t ≤ a + d → t < m
-ends_below a n d t m h k l = omega arith
-
--- the sum from 0, and the start plus and less the sum
-pub sums_fit : (w : ℕ) (start : ℤ) (row point : List ℤ) → SumBelow (2 ^ 127) w start row → Within w point
-    → FitsDot (pos 0) row point × FitsWhole (start +ℤ dot row point) × FitsWhole (start -ℤ dot row point)
-sums_fit w start row point h k =
-    let d = abs_dot w row point k in (
-      room_fits (pos 0) row point (w, k, less_start (unsigned_abs start) (size row * w) (2 ^ 127) h),
-      ends_below (unsigned_abs start) (size row * w) (unsigned_abs (dot row point)) (unsigned_abs (start +ℤ dot row point)) (2 ^ 127) h d (abs_add start (dot row point)),
-      ends_below (unsigned_abs start) (size row * w) (unsigned_abs (dot row point)) (unsigned_abs (start -ℤ dot row point)) (2 ^ 127) h d (abs_sub start (dot row point)),
-    )
-
--- a start is d h with h at most g
-start_product : (m a d h g n : ℕ) → d * g + n < m → h ≤ g → a ≡ d * h → a + n < m
-start_product m a d h g n k l e = let q = mul_le d h g l in omega arith
-
--- a sum that begins with den times a height of at most `most`
-pub line_fits : (w most : ℕ) (den height : ℤ) (row point : List ℤ) → unsigned_abs den * most + size row * w < 2 ^ 127 → unsigned_abs height ≤ most → Within w point → FitsDot (den *ℤ height) row point
-line_fits w most den height row point below high k =
-    room_fits (den *ℤ height) row point (w, k, start_product (2 ^ 127) (unsigned_abs (den *ℤ height)) (unsigned_abs den) (unsigned_abs height) most (size row * w) below high (unsigned_abs-mul den height))
 
 -- a place of a loop
 module _ (m : ℕ) (t : ℤ) (a b : List ℤ) (i : ℕ) (la : i < length a) (lb : i < length b) (r : Room m t (drop i a) (drop i b)) where

@@ -1,13 +1,13 @@
 -- the sum of the products of a difference of vectors, one place at a time
-use Rattle.std.proofs.Common.{◌≡◌, ◌↔◌, ℕ, zero, suc, ◌+◌, ◌*◌, ◌^◌, ◌<◌, ◌≤◌, unsigned_abs, ℤ, pos, ◌+ℤ◌, ◌-ℤ◌, ◌*ℤ◌, neg_ℤ, List, [], ◌∷◌, length, get_or, drop, arith, sym, ap, subst, ◌∙◌, drop_of_length-le}
+use Rattle.std.proofs.Common.{◌≡◌, ◌↔◌, ℕ, zero, suc, ◌+◌, ◌*◌, ◌<◌, ◌≤◌, unsigned_abs, ℤ, pos, ◌+ℤ◌, ◌-ℤ◌, ◌*ℤ◌, List, [], ◌∷◌, length, get_or, drop, arith, sym, ap, subst, ◌∙◌, drop_of_length-le}
 use Rattle.std.proofs.Math.IntN.{+ℤ_idr}
 use Rattle.std.proofs.lemmas.Int.{ints}
 use Rattle.wide_int.specs.Whole.{FitsWhole}
 use Rattle.int_vectors.specs.Vectors.{Each, dot, sub}
 use Rattle.int_vectors.specs.Fits.{FitsDot}
 use Rattle.int_vectors.proofs.DotSteps as steps
-use Rattle.int_vectors.specs.Bounds.{Room, IsNarrow}
-use Rattle.int_vectors.proofs.BoundSums.{abs_sub, room_at}
+use Rattle.int_vectors.specs.Bounds.{Room}
+use Rattle.int_vectors.proofs.BoundSums.{room_at}
 
 pub each_at : (P : ℤ → Type 0) (xs : List ℤ) (i : ℕ) → i < length xs → Each xs P → P (get_or xs i (pos 0))
 each_at P [] i lt e = absurd (omega arith)
@@ -62,9 +62,6 @@ module _ (start t : ℤ) (a c v : List ℤ) (i : ℕ) (la : length a ≡ length 
   fits_more f =
       subst (λ z. FitsWhole z × FitsWhole (t +ℤ z) × FitsDot (t +ℤ z) (drop (i + 1) (sub c a)) (drop (i + 1) v)) product_is
       (subst (λ T. T) (steps.fits-step t (sub c a) v i long lt) f)
-
-pub small_between : (x y : ℤ) → IsNarrow x → IsNarrow y → unsigned_abs (x -ℤ y) < 2 ^ 63
-small_between x y p q = let s = abs_sub x y in omega (arith, s, p, q)
 
 -- past the last place
 pub at_end : (start t : ℤ) (a c v : List ℤ) (i : ℕ) → length a ≡ length v → length c ≡ length v → length v ≤ i → t +ℤ dot (drop i (sub c a)) (drop i v) ≡ start +ℤ dot (sub c a) v → t ≡ start +ℤ dot (sub c a) v

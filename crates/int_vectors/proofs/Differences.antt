@@ -6,7 +6,7 @@ use Rattle.wide_int.specs.Whole.{FitsWhole}
 use Rattle.int_vectors.specs.Fits.{AllFit}
 use Rattle.int_vectors.specs.Vectors.{sub}
 
-minus_one : (x y : ℤ) → x +ℤ neg_ℤ (pos 1) *ℤ y ≡ x -ℤ y
+pub minus_one : (x y : ℤ) → x +ℤ neg_ℤ (pos 1) *ℤ y ≡ x -ℤ y
 minus_one x y = omega (arith, ints)
 
 sub-append : (x y : ℤ) (xs ys : List ℤ) → length xs ≡ length ys → sub (xs ++ x ∷ []) (ys ++ y ∷ []) ≡ sub xs ys ++ (x -ℤ y) ∷ []

@@ -1,8 +1,9 @@
+-- a vector divided by a number that divides each entry
 use Rattle.std.proofs.Common.{◌≡◌, ℕ, ◌+◌, ◌<◌, ℤ, pos, ◌*ℤ◌, List, [], ◌∷◌, ◌++◌, length, get_or, take, drop, set, refl, sym, ap, ap₂, subst, ◌∙◌, arith, add-zero, get_or-drop, drop-drop, drop-set-lt}
 use Rattle.std.proofs.lemmas.List.{take_more, take_more_set}
 use Rattle.int_vectors.specs.Vectors.{scale}
 
-scale-append : (g x : ℤ) (xs : List ℤ) → scale g (xs ++ x ∷ []) ≡ scale g xs ++ (g *ℤ x) ∷ []
+pub scale-append : (g x : ℤ) (xs : List ℤ) → scale g (xs ++ x ∷ []) ≡ scale g xs ++ (g *ℤ x) ∷ []
 scale-append g x [] = refl
 scale-append g x (y ∷ xs) = ap (λ l. (g *ℤ y) ∷ l) (scale-append g x xs)
 

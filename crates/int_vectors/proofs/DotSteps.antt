@@ -1,3 +1,4 @@
+-- sums of products, one more at a time
 use Rattle.std.proofs.Common.{◌≡◌, ◌↔◌, ℕ, ◌+◌, ◌<◌, ◌≤◌, ℤ, pos, ◌+ℤ◌, ◌*ℤ◌, List, length, get_or, drop, refl, sym, ap, subst, ◌∙◌, drop-cons, add-one, drop_of_length-le}
 use Rattle.std.proofs.Math.IntN.{+ℤ_assoc, +ℤ_idr}
 use Rattle.wide_int.specs.Whole.{FitsWhole}

@@ -1,4 +1,4 @@
-use Rattle.std.proofs.Common.{◌≡◌, ℕ, zero, suc, ◌+◌, ◌<◌, ℤ, pos, ◌*ℤ◌, ◌-ℤ◌, List, [], ◌∷◌, ◌++◌, length, get_or, take, refl, ap, arith, length-take, take_all}
+use Rattle.std.proofs.Common.{◌≡◌, ℕ, zero, suc, ◌+◌, ◌<◌, ℤ, pos, ◌*ℤ◌, ◌-ℤ◌, List, [], ◌∷◌, ◌++◌, length, get_or, take, refl, ap, arith, length-take}
 use Rattle.std.proofs.lemmas.List.{take_more}
 use Rattle.wide_int.specs.Whole.{FitsMulSub}
 use Rattle.int_vectors.specs.RowSteps.{eliminated, FitsEliminated}
@@ -38,6 +38,3 @@ pub fits-more : (p f : ℤ) (xs ys : List ℤ) (i : ℕ) → length xs ≡ lengt
 fits-more p f xs ys i e h s t =
     let k : i < length ys = omega arith in
     rw (take_more xs i (pos 0), take_more ys i (pos 0)) (fits-append p f _ _ _ _ (same_front xs ys i e) s t)
-
-pub none_left : (p f : ℤ) (xs ys : List ℤ) (i : ℕ) → length xs ≡ length ys → ¬ (i < length xs) → (take i xs ≡ xs) × (take i ys ≡ ys)
-none_left p f xs ys i e h = (take_all i xs (omega arith), take_all i ys (omega arith))

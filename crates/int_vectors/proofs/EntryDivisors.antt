@@ -13,15 +13,15 @@ use Rattle.wide_int.proofs.Order.{mul_cancel}
 use Rattle.int_vectors.specs.Contents.{content, DividesEach, IsContent, divided, primitive}
 use Rattle.wide_int.proofs.CommonDivisors.{gcd_is}
 
-divides_trans : (d g : ℕ) (xs : List ℤ) → d ∣ g → DividesEach g xs → DividesEach d xs
+pub divides_trans : (d g : ℕ) (xs : List ℤ) → d ∣ g → DividesEach g xs → DividesEach d xs
 divides_trans d g [] h k = tt
 divides_trans d g (x ∷ xs) h k = (dvd_trans d h k.0, divides_trans d g xs h k.1)
 
-divides-append : (d : ℕ) (x : ℤ) (xs : List ℤ) → DividesEach d xs → d ∣ unsigned_abs x → DividesEach d (xs ++ x ∷ [])
+pub divides-append : (d : ℕ) (x : ℤ) (xs : List ℤ) → DividesEach d xs → d ∣ unsigned_abs x → DividesEach d (xs ++ x ∷ [])
 divides-append d x [] h k = (k, tt)
 divides-append d x (y ∷ xs) h k = (h.0, divides-append d x xs h.1 k)
 
-divides_front : (d : ℕ) (x : ℤ) (xs : List ℤ) → DividesEach d (xs ++ x ∷ []) → DividesEach d xs × (d ∣ unsigned_abs x)
+pub divides_front : (d : ℕ) (x : ℤ) (xs : List ℤ) → DividesEach d (xs ++ x ∷ []) → DividesEach d xs × (d ∣ unsigned_abs x)
 divides_front d x [] h = (tt, h.0)
 divides_front d x (y ∷ xs) h = let k = divides_front d x xs h.1 in ((h.0, k.0), k.1)
 
@@ -30,7 +30,7 @@ divides-take d zero xs h = tt
 divides-take d (suc n) [] h = tt
 divides-take d (suc n) (x ∷ xs) h = (h.0, divides-take d n xs h.1)
 
-one_divides_each : (xs : List ℤ) → DividesEach 1 xs
+pub one_divides_each : (xs : List ℤ) → DividesEach 1 xs
 one_divides_each [] = tt
 one_divides_each (x ∷ xs) = (one-dvd (unsigned_abs x), one_divides_each xs)
 
@@ -116,3 +116,11 @@ primitive_small xs h = elim (zero_or_one (content xs) h) [
   | inl z ↦ primitive_zero xs z
   | inr o ↦ sym (times_one (primitive xs)) ∙ ap (λ g. scale (pos g) (primitive xs)) (sym o) ∙ scale-primitive xs
 ]
+
+pub divides_both : (d : ℕ) (xs ys : List ℤ) → DividesEach d xs → DividesEach d ys → DividesEach d (xs ++ ys)
+divides_both d [] ys h k = k
+divides_both d (x ∷ xs) ys h k = (h.0, divides_both d xs ys h.1 k)
+
+pub divides_apart : (d : ℕ) (xs ys : List ℤ) → DividesEach d (xs ++ ys) → DividesEach d xs × DividesEach d ys
+divides_apart d [] ys h = (tt, h)
+divides_apart d (x ∷ xs) ys h = let k = divides_apart d xs ys h.1 in ((h.0, k.0), k.1)

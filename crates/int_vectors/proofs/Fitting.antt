@@ -2,11 +2,11 @@
 use Rattle.std.proofs.Common.{◌≡◌, ℕ, zero, suc, ◌^◌, ◌<◌, ℤ, pos, negsuc, ◌<ℤ◌, unsigned_abs, List, [], ◌∷◌, length, get_or, set, refl, sym, subst, arith}
 use Rattle.std.proofs.lemmas.Int.{ints, unsigned_abs-mul}
 use Rattle.wide_int.specs.Whole.{FitsWhole}
-use Rattle.int_vectors.specs.RowSteps.{eliminated, FitsEliminated, negated}
+use Rattle.int_vectors.specs.RowSteps.{eliminated, FitsEliminated}
 use Rattle.int_vectors.specs.Vectors.{scale}
 use Rattle.int_vectors.specs.Fits.{AllFit}
 use Rattle.int_vectors.specs.Contents.{primitive, content}
-use Rattle.wide_int.proofs.Signed.{neg_fits, below_product}
+use Rattle.wide_int.proofs.Signed.{below_product}
 use Rattle.int_vectors.proofs.EntryDivisors.{scale-primitive, primitive_small}
 
 pub fits_entry : (xs : List ℤ) (i : ℕ) → i < length xs → AllFit xs → FitsWhole (get_or xs i (pos 0))
@@ -18,11 +18,6 @@ pub fits-set : (xs : List ℤ) (i : ℕ) (y : ℤ) → AllFit xs → FitsWhole y
 fits-set [] i y f g = tt
 fits-set (x ∷ xs) zero y f g = (g, f.1)
 fits-set (x ∷ xs) (suc i) y f g = (f.0, fits-set xs i y f.1 g)
-
-pub fits-negated : (xs : List ℤ) → AllFit xs → AllFit (negated xs)
-unfolding negated
-fits-negated [] f = tt
-fits-negated (x ∷ xs) f = (neg_fits x f.0, fits-negated xs f.1)
 
 pub fits_scale : (g : ℕ) (xs : List ℤ) → 0 < g → AllFit (scale (pos g) xs) → AllFit xs
 fits_scale g [] h f = tt

@@ -4,9 +4,10 @@ pub mod BoundSums
 pub mod Differences
 pub mod DividingEach
 pub mod DotSteps
-pub mod Eliminated
+mod Eliminated
 pub mod EntryDivisors
-pub mod Fitting
+mod Fitting
 pub mod InPlace
 pub mod TakingOff
 pub mod Weighing
+pub mod Entries

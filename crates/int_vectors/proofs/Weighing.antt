@@ -1,8 +1,8 @@
 -- weighted sums over lists
-use Rattle.std.proofs.Common.{◌≡◌, List, [], ◌∷◌, ◌++◌, length, arith, refl, sym, ap₂}
+use Rattle.std.proofs.Common.{◌≡◌, List, [], ◌∷◌, ◌++◌, length, arith, refl, sym, ap₂, ap, ◌∙◌, suc, ℕ, ◌<◌}
 use Rattle.std.proofs.lemmas.Int.{ints}
-use Rattle.std.proofs.Math.IntN.{ℤ, pos, ◌+ℤ◌, ◌*ℤ◌, +ℤ_idl, +ℤ_assoc}
-use Rattle.int_vectors.specs.Vectors.{weigh, IsZero, scale}
+use Rattle.std.proofs.Math.IntN.{ℤ, pos, ◌+ℤ◌, ◌*ℤ◌, +ℤ_idl, +ℤ_assoc, +ℤ_idr}
+use Rattle.int_vectors.specs.Vectors.{weigh, IsZero, scale, add, row_at}
 use Rattle.wide_int.proofs.Ring.{as_D, Ds, same_D}
 
 pub weigh-lin : {A : Type 0} (cs : List ℤ) (xs : List A) (a b : ℤ) (f g : A → ℤ)
@@ -40,3 +40,21 @@ pub weigh-zero : {A : Type 0} (cs : List ℤ) (xs : List A) (f : A → ℤ) → 
 weigh-zero [] xs f z = refl
 weigh-zero (c ∷ cs) [] f z = refl
 weigh-zero (c ∷ cs) (x ∷ xs) f z = rw (z.0, weigh-zero cs xs f z.1) (omega (arith, ints))
+
+pub weigh-add : {A : Type 0} (cs ds : List ℤ) (xs : List A) (f : A → ℤ) → weigh (add cs ds) xs f ≡ weigh cs xs f +ℤ weigh ds xs f
+weigh-add [] ds xs f = sym (+ℤ_idl _)
+weigh-add (c ∷ cs) [] xs f = sym (ap (λ x. weigh (c ∷ cs) xs f +ℤ x) refl ∙ +ℤ_idr _)
+weigh-add (c ∷ cs) (d ∷ ds) [] f = refl
+weigh-add (c ∷ cs) (d ∷ ds) (x ∷ xs) f = rw (weigh-add cs ds xs f) (step c d (f x) (weigh cs xs f) (weigh ds xs f))
+  where
+    step : (c d p s t : ℤ) → (c +ℤ d) *ℤ p +ℤ (s +ℤ t) ≡ c *ℤ p +ℤ s +ℤ (d *ℤ p +ℤ t)
+    step c d p s t = rw (as_D c, as_D d, as_D p, as_D s, as_D t) (simp Ds (same_D _ _ _ _ (omega arith)))
+
+pub times_zero : (c s : ℤ) → s ≡ pos 0 → c *ℤ pos 0 +ℤ s ≡ pos 0
+times_zero c s e = omega (arith, ints, e)
+
+pub weigh_none : (cs : List ℤ) (xs : List (List ℤ)) (f : List ℤ → ℤ) → ((k : ℕ) → k < length xs → f (row_at xs k) ≡ pos 0) → weigh cs xs f ≡ pos 0
+weigh_none [] xs f h = refl
+weigh_none (c ∷ cs) [] f h = refl
+weigh_none (c ∷ cs) (x ∷ xs) f h =
+    ap (λ z. c *ℤ z +ℤ weigh cs xs f) (h 0 (omega arith)) ∙ times_zero c (weigh cs xs f) (weigh_none cs xs f (λ k lt. h (suc k) (omega (arith, lt))))

@@ -1,5 +1,5 @@
 -- Vectors of whole numbers. A list counts as followed by zeros, so no operation asks for equal lengths.
-use Rattle.std.specs.Prelude.{◌≡◌, ◌⊎◌, ℕ, zero, suc, List, [], ◌∷◌, ℤ, pos, ◌+ℤ◌, ◌*ℤ◌, ◌<ℤ◌, neg_ℤ, slice_index_or, length}
+use Rattle.std.specs.Prelude.{◌≡◌, ◌⊎◌, ℕ, zero, suc, List, [], ◌∷◌, ℤ, pos, ◌+ℤ◌, ◌*ℤ◌, ◌<ℤ◌, neg_ℤ, slice_index_or, length, map}
 
 -- P holds of each element
 abbrev pub Each : {A : Type 0} → List A → (A → Type 0) → Type 0
@@ -65,3 +65,13 @@ IsOrthogonal rows v = Each rows (λ row. dot row v ≡ pos 0)
 -- the rows cut to n columns are independent
 abbrev pub Independent : ℕ → List (List ℤ) → Type 0
 Independent n rows = (v : List ℤ) → length v ≡ n → IsOrthogonal rows v → IsZero v
+
+unfoldable pub zeros : ℕ → List ℤ
+zeros zero = []
+zeros (suc n) = pos 0 ∷ zeros n
+
+abbrev pub row_at : List (List ℤ) → ℕ → List ℤ
+row_at rows i = slice_index_or rows i []
+
+abbrev pub entries_at : ℕ → List (List ℤ) → List ℤ
+entries_at i columns = map (λ (column : List ℤ). at column i) columns

@@ -16,8 +16,9 @@ fn between(a: i128, c: i128) -> i128
     c - a
 }
 
-/// `start` plus the sum of the products of c less a with v, which are read where they stand. `None`
-/// exactly where a product, or a partial sum in order of places, doesn't fit.
+/// `start` plus the sum of the products of c less a with v, which are read where they stand. All three
+/// have one length; the entries of `a` and `c` are below 2^62 in absolute value. `None` exactly where a product, or a
+/// partial sum in order of places, doesn't fit.
 pub fn dot_between(start: i128, a: &[i128], c: &[i128], v: &[i128]) -> Option<i128>
     requires a_length { length a.now ≡ length v.now }
     requires c_length { length c.now ≡ length v.now }

@@ -13,7 +13,7 @@ fn narrowed(x: i128) -> i64
     x as i64
 }
 
-/// The same entries in 64 bits.
+/// The same entries in 64 bits; each is below 2^62 in absolute value.
 pub fn narrow_copy(alloc: Global, v: &[i128]) -> Result<Vec<i64>, AllocError>
     requires { Each v.now IsNarrow }
     ensures { IfOk result (λ made. made.items ≡ v.now) }

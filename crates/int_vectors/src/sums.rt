@@ -8,7 +8,7 @@ use crate::faults::SubFault;
 use std::alloc::Global;
 use wide_int::{difference, product, sum};
 
-/// `start` plus the sum of the products of the entries in the same place. `None` exactly where a
+/// `start` plus the sum of the products of the entries in the same place, of two lists of one length. `None` exactly where a
 /// product, or a partial sum in order of places, doesn't fit.
 pub fn dot_from(start: i128, a: &[i128], b: &[i128]) -> Option<i128>
     requires lengths { length a.now ≡ length b.now }

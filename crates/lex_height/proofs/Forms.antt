@@ -1,24 +1,24 @@
 -- one value has one form in lowest terms
-use Rattle.std.proofs.Common.{◌≡◌, ◌≢◌, ◌⊎◌, inl, inr, ℕ, zero, suc, ◌+◌, ◌*◌, ◌/◌, ◌<◌, ◌≤◌, List, [], ◌∷◌, unsigned_abs, arith, refl, sym, ap, ap₂, subst, ◌∙◌, ◌<ℤ◌, Ordering, Less, Equal, Greater}
+use Rattle.std.proofs.Common.{◌≡◌, ◌≢◌, ◌⊎◌, inl, inr, ℕ, ◌+◌, ◌*◌, ◌/◌, ◌<◌, List, [], ◌∷◌, unsigned_abs, arith, refl, sym, ap, ap₂, subst, ◌∙◌, ◌<ℤ◌, Ordering, Less, Equal, Greater}
 use Prim.Native.Nat.{◌∣◌}
 use Rattle.std.specs.Int.{IsGcd}
 use Rattle.std.specs.Ordering.{MatchOrdering}
 use Rattle.std.proofs.Math.Nat.{one-dvd, dvd_of_mul-dvd-mul_left, mul-dvd-mul_left, dvd-mul_left, dvd-mul_right, mul-div_cancel}
 use Rattle.std.proofs.lemmas.Int.{ints, unsigned_abs-mul}
 use Rattle.std.proofs.lemmas.Nat.Gcd.{dvd_antisymm}
-use Rattle.std.proofs.Math.IntN.{ℤ, pos, negsuc, ◌*ℤ◌, ◌-ℤ◌}
+use Rattle.std.proofs.Math.IntN.{ℤ, pos, ◌*ℤ◌, ◌-ℤ◌}
 use Rattle.wide_int.specs.Divisors.{gcd_of}
 use Rattle.wide_int.proofs.CommonDivisors.{gcd_is, gcd_positive, quotient_times, euclid_lemma}
 use Rattle.wide_int.proofs.Ring.{zero_mul_ℤ}
 use Rattle.wide_int.proofs.Order.{mul_cancel, sign_cases}
-use Rattle.wide_int.proofs.Signed.{abs_positive, as_pos}
+use Rattle.wide_int.proofs.Signed.{abs_positive, as_pos, some_abs}
 use Rattle.lex_height.specs.declared.part.LexPart.{LexPart}
 use Rattle.lex_height.specs.Entries.{entry}
 use Rattle.lex_height.specs.Order.{IsLess, IsSame}
 use Rattle.lex_height.specs.Divisors.{DividesEach, HaveNoDivisor}
 use Rattle.lex_height.specs.Values.{Value, AreParts, IsLowest, IsBelow, HasValue, OneForm, ValuesAreOrdered}
 use Rattle.lex_height.proofs.Ranks.{entry_here, entry_other, entry_below, entry_up, three}
-use Rattle.lex_height.proofs.Comparing.{not_below_itself, less_less, same_back}
+use Rattle.lex_height.proofs.Comparing.{not_below_itself, less_less}
 use Rattle.lex_height.proofs.Heads.{first_alone, heads_less, rest_less, rest_same}
 
 -- the same ranks, and the same quotients over p and q
@@ -73,11 +73,6 @@ same_mates p q e n (a ∷ more) (b ∷ others) h =
     ap₂ (λ (x : LexPart) (xs : List LexPart). x ∷ xs) (ap₂ (λ (r : ℕ) (z : ℤ). record { rank = r; num = z }) h.0 k) (same_mates p q e n more others h.2)
 
 -- ---- the denominators
-some_abs : (z : ℤ) → z ≢ pos 0 → 0 < unsigned_abs z
-some_abs (pos zero) n = absurd (n refl)
-some_abs (pos (suc k)) n = omega arith
-some_abs (negsuc k) n = omega arith
-
 module _ (p q : ℤ) (pp : pos 0 <ℤ p) where
   abbrev P : ℕ
   P = unsigned_abs p

@@ -1,5 +1,5 @@
 -- the order of two lists of parts by their first parts
-use Rattle.std.proofs.Common.{◌≡◌, ◌≢◌, ◌⊎◌, inl, inr, ℕ, suc, ◌+◌, ◌-◌, ◌<◌, ◌≤◌, List, [], ◌∷◌, arith, refl, sym, ap, subst, ◌∙◌, ◌<ℤ◌, Ordering, Less, Equal, Greater}
+use Rattle.std.proofs.Common.{◌≡◌, ◌≢◌, ◌⊎◌, inl, inr, ℕ, ◌+◌, ◌-◌, ◌<◌, ◌≤◌, List, [], ◌∷◌, arith, refl, sym, ap, subst, ◌∙◌, ◌<ℤ◌, Ordering, Less, Equal, Greater}
 use Rattle.std.proofs.lemmas.Int.{ints}
 use Rattle.std.proofs.Math.IntN.{ℤ, pos, ◌*ℤ◌}
 use Rattle.std.proofs.Math.ListN.{get_or, take, drop, length}
@@ -11,7 +11,7 @@ use Rattle.lex_height.specs.declared.part.LexPart.{LexPart}
 use Rattle.lex_height.specs.Entries.{entry}
 use Rattle.lex_height.specs.Order.{IsLess, IsSame}
 use Rattle.lex_height.specs.Values.{AreParts}
-use Rattle.lex_height.proofs.Ranks.{entry_here, entry_other, entry_below, entry_up, weaker, three}
+use Rattle.lex_height.proofs.Ranks.{entry_here, entry_other, entry_below, entry_up, three}
 
 both_zero : (a b p q : ℤ) → a ≡ pos 0 → b ≡ pos 0 → a *ℤ q ≡ b *ℤ p
 both_zero a b p q e f = rw (e, f) (zero_mul_ℤ q ∙ sym (zero_mul_ℤ p))
@@ -177,8 +177,3 @@ module _ (p q : ℤ) (pp : pos 0 <ℤ p) (pq : pos 0 <ℤ q) where
       decided P Q R S Less n h = h
       decided P Q R S Equal n h = absurd (n refl)
       decided P Q R S Greater n h = h
-
--- the parts behind the first
-pub rest_parts : (xs : List LexPart) → 1 ≤ length xs → AreParts 0 xs → AreParts 0 (take (length xs - 1) (drop 1 xs))
-rest_parts [] le h = absurd (omega (arith, le))
-rest_parts (a ∷ more) le h = subst (AreParts 0) (sym (whole_rest a more)) (weaker (a.rank + 1) 0 more (omega arith) h.3)

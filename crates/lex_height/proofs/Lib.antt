@@ -1,8 +1,8 @@
 pub mod Ranks
 pub mod Comparing
-pub mod Heads
-pub mod Quotients
+mod Heads
+mod Quotients
 pub mod Forms
-pub mod Room
-pub mod Fractions
+mod Room
+mod Fractions
 pub mod Signs

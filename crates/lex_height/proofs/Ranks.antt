@@ -1,5 +1,5 @@
 -- the entries of parts in rising rank
-use Rattle.std.proofs.Common.{◌≡◌, ◌≢◌, ◌⊎◌, inl, inr, ℕ, zero, suc, ◌+◌, ◌-◌, ◌<◌, ◌≤◌, List, [], ◌∷◌, ◌++◌, length, arith, refl, sym, ap, ◌∙◌, cond, eq-eqb}
+use Rattle.std.proofs.Common.{◌≡◌, ◌⊎◌, inl, inr, ℕ, zero, suc, ◌+◌, ◌-◌, ◌<◌, ◌≤◌, List, [], ◌∷◌, ◌++◌, arith, refl, sym, ap, ◌∙◌, cond, eq-eqb}
 use Rattle.std.proofs.Math.IntN.{ℤ, pos}
 use Rattle.std.proofs.Math.ListN.{get_or, replicate}
 use Rattle.std.proofs.lemmas.Bool.{ne_eqb}
@@ -70,24 +70,3 @@ entries_at n (part ∷ parts) h k = by_place (entries_at (part.rank + 1) parts h
 -- the entry at each place of the list is that of the rank
 pub entries_is : (parts : List LexPart) → AreParts 0 parts → (k : ℕ) → at_rank (entries parts) k ≡ entry parts k
 entries_is parts h k = let e : 0 + k ≡ k = omega arith in entries_at 0 parts h k ∙ ap (entry parts) e
-
--- ---- where the entries end
--- no part has this rank or a greater one
-abbrev pub span : List LexPart → ℕ
-span [] = 0
-span (part ∷ parts) = part.rank + 1 + span parts
-
-pub entry_past : (parts : List LexPart) (k : ℕ) → span parts ≤ k → entry parts k ≡ pos 0
-entry_past [] k le = refl
-entry_past (part ∷ parts) k le = entry_other part parts k (λ e. omega (arith, le, e)) ∙ entry_past parts k (omega (arith, le))
-
--- the first n entries as a list
-abbrev pub front : ℕ → (ℕ → ℤ) → List ℤ
-front zero w = []
-front (suc n) w = w 0 ∷ front n (λ k. w (suc k))
-
--- the list of all entries that aren't zero
-pub front_at : (n : ℕ) (w : ℕ → ℤ) → ((k : ℕ) → n ≤ k → w k ≡ pos 0) → (k : ℕ) → at_rank (front n w) k ≡ w k
-front_at zero w h k = sym (h k (omega arith))
-front_at (suc n) w h zero = refl
-front_at (suc n) w h (suc k) = front_at n (λ j. w (suc j)) (λ j le. h (suc j) (omega (arith, le))) k

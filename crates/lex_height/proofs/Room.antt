@@ -3,15 +3,12 @@ use Rattle.std.proofs.Common.{◌≡◌, ℕ, suc, ◌+◌, ◌-◌, ◌<◌, �
 use Rattle.std.proofs.lemmas.List.{take_more_set, set_split, length-append, length-replicate}
 use Rattle.lex_height.specs.declared.part.TheConstants.{PARTS}
 use Rattle.lex_height.specs.declared.part.LexPart.{LexPart}
-use Rattle.lex_height.specs.Room.{blank, filled, IsFilled}
+use Rattle.lex_height.specs.Room.{blank, IsFilled}
 
 -- behind the next place
 tail : (xs : List LexPart) (m : ℕ) → drop (suc (length xs)) (xs ++ replicate (suc m) blank) ≡ replicate m blank
 tail [] m = refl
 tail (x ∷ xs) m = tail xs m
-
-pub no_part : (room : ℕ) → replicate room blank ≡ [] ++ replicate (room - 0) blank
-no_part room = let e : room - 0 ≡ room = omega arith in ap (λ n. replicate n blank) (sym e)
 
 pub pushed : (n : ℕ) (all : List LexPart) (part : LexPart) → n < PARTS → IsFilled n all → IsFilled (n + 1) (set all n part)
 pushed n all part lt h =

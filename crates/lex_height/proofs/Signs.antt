@@ -1,5 +1,5 @@
 -- the sign of entries of which only so many aren't zero
-use Rattle.std.proofs.Common.{◌≡◌, ◌⊎◌, inl, inr, ℕ, zero, suc, ◌<◌, ◌≤◌, List, [], ◌∷◌, length, refl, arith, ◌<ℤ◌}
+use Rattle.std.proofs.Common.{◌≡◌, ◌⊎◌, inl, inr, ℕ, zero, suc, ◌<◌, ◌≤◌, List, [], ◌∷◌, length, refl, arith}
 use Rattle.std.proofs.lemmas.Int.{ints}
 use Rattle.std.proofs.Math.IntN.{ℤ, pos, neg_ℤ}
 use Rattle.wide_int.proofs.Order.{sign_cases}
@@ -35,10 +35,6 @@ has_sign (suc n) w h = by_rest (has_sign n (λ k. w (suc k)) (λ k le. h (suc k)
           | inr s ↦ inr (elim s [ inl b ↦ inl (all z b) | inr p ↦ inr (later (λ k. neg_ℤ (w k)) (omega (arith, ints, z)) p) ])
         ])
         (λ p. inl (0, p, λ k lt. absurd (omega (arith, lt))))
-
--- only one of the three
-pub not_zero : (w : ℕ → ℤ) → IsPositive w → ¬ (IsZero w)
-not_zero w h z = let a = h.1 in let b = z h.0 in omega (arith, ints, a, b)
 
 -- past the end of a list
 pub past_end : (t : List ℤ) (k : ℕ) → length t ≤ k → at_rank t k ≡ pos 0

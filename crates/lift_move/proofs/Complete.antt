@@ -1,20 +1,18 @@
 -- along a generic segment every cell that is alive at time 1 comes of one that is alive at time 0
-use Rattle.std.proofs.Common.{◌≡◌, ◌⊎◌, inl, inr, ℕ, List, [], ◌∷◌, refl, sym, subst}
-use Rattle.cayley.specs.Times.{Time, IsBefore, IsSameTime, time_zero}
+use Rattle.std.proofs.Common.{inl, inr, List, [], ◌∷◌}
+use Rattle.cayley.specs.Times.{Time, IsBefore, time_zero}
 use Rattle.cayley.specs.Problems.{Problem, IsProblem}
-use Rattle.cayley.specs.Cells.{Cell, IsListOf}
+use Rattle.cayley.specs.Cells.{Cell}
 use Rattle.cayley.specs.Mixed.{IsAlive}
-use Rattle.cayley.specs.Lives.{BeginsAt, EndsAt, AliveJustBefore}
+use Rattle.cayley.specs.Lives.{BeginsAt}
 use Rattle.cayley.specs.Parents.{IsParent, IsChain, InChain}
 use Rattle.cayley.specs.Parents.InChain.{here, up}
-use Rattle.cayley.proofs.Order.Lines.{before_trans, earlier}
-use Rattle.cayley.proofs.Order.Times.{time_cases, never_before, same_before, before_same, same_sym, middle, sooner, less}
+use Rattle.cayley.proofs.Order.Lines.{before_trans, earlier, middle}
+use Rattle.cayley.proofs.Order.Times.{time_cases, never_before, before_same, same_sym, sooner, less}
 use Rattle.cayley.proofs.Life.Decisions.{dec_alive}
 use Rattle.cayley.proofs.Life.LifeLaws.{life_law, parent_law, same_times_law, tie_free_law}
 use Rattle.cayley.proofs.Searching.ComputedLaw.{a_chain}
-use Rattle.cayley.proofs.Searching.Members.{has_contains}
-use Rattle.searcher.specs.Passes.{time_one, IsReached, IsLedBy}
-use Rattle.searcher.proofs.OnTheWay.{before_least, least_before}
+use Rattle.searcher.specs.Passes.{time_one, IsReached}
 use Rattle.lift_move.specs.Segments.{IsGeneric}
 use Rattle.lift_move.specs.Moves.{AreAll}
 

@@ -6,12 +6,13 @@ use Rattle.std.proofs.lemmas.Int.{ints}
 use Rattle.std.proofs.Math.IntN.{ℤ, pos, ◌+ℤ◌, ◌*ℤ◌}
 use Rattle.int_vectors.specs.Vectors.{Each, IsZero, IsPositive, add, sub, dot, scale, comb, at_place}
 use Rattle.cayley.specs.Times.{Time, time_zero}
-use Rattle.cayley.specs.Problems.{version1, Point, Problem, EachSupport, HasNoCorners, HasRanks, IsStill, with_rank, ranked_supports, first_points, file_points, origin, point_at}
-use Rattle.cayley.specs.Cells.{Cell, EachPair, IsOf, IsIndependent, IsFurther}
-use Rattle.cayley.specs.Normals.{Normal, mark, height, gap, IsNormal, AllAbove}
+use Rattle.cayley.specs.Problems.{Point, Problem, EachSupport, HasNoCorners, HasRanks, IsStill, ranked_supports, file_points, origin, point_at}
+use Rattle.cayley.specs.Cells.{Cell, EachPair, IsOf, IsFurther}
+use Rattle.cayley.specs.Normals.{Normal, mark, height, gap}
 use Rattle.cayley.specs.Mixed.{IsAlive, IsMixedCell}
+use Rattle.cayley.proofs.OneCell.PlainProblems.{whole_supports}
 use Rattle.searcher.specs.Passes.{time_one}
-use Rattle.lift_move.specs.Segments.{IsSegment, arrived, end_of, departing, start_of}
+use Rattle.lift_move.specs.Segments.{arrived, end_of, departing, start_of}
 
 -- ---- points that are changed and keep their coordinates, and their gaps at one time are those of the others at another
 module _ (f : Point → Point) (blank : f origin ≡ origin) (t u : Time)
@@ -126,18 +127,6 @@ alive_at_start p cell = (
 )
 
 -- ---- a problem of version 1 without corners has its file points alone
-take_whole : (s : List Point) (f : ℕ) → length s ≡ f → take f s ≡ s
-take_whole [] zero e = refl
-take_whole [] (suc f) e = refl
-take_whole (x ∷ s) zero e = absurd (omega (arith, e))
-take_whole (x ∷ s) (suc f) e = ap (λ l. x ∷ l) (take_whole s f (omega (arith, e)))
-
-whole_supports : (i : ℕ) (files : List ℕ) (supports : List (List Point)) → EachSupport i files supports (λ j f s. length s ≡ f) → first_points files supports ≡ supports
-whole_supports i [] [] e = refl
-whole_supports i [] (s ∷ supports) e = absurd e
-whole_supports i (f ∷ files) [] e = absurd e
-whole_supports i (f ∷ files) (s ∷ supports) e = ap₂ (λ x xs. x ∷ xs) (take_whole s f e.0) (whole_supports (suc i) files supports e.1)
-
 pub own_points : (p : Problem) → HasRanks p → HasNoCorners p → file_points p ≡ p
 own_points p ranks alone = ap (λ l. record p { supports = l }) (ap (ranked_supports p.version p.files) (whole_supports 1 p.files p.supports alone) ∙ sym ranks)
 

@@ -1,31 +1,30 @@
 -- the answers of a move, from what is reached at time 1
-use Rattle.std.proofs.Common.{◌≡◌, ◌↔◌, ◌⊎◌, inl, inr, ℕ, zero, suc, ◌+◌, ◌<◌, ◌≤◌, ◌++◌, List, [], ◌∷◌, length, map, take, arith, refl, ap, ap₂, sym, ◌∙◌, subst}
-use Rattle.std.specs.Prelude.{slice_index_or, Contains, Result, Ok, Err, IfOk, IfErr, MatchResult}
+use Rattle.std.proofs.Common.{◌≡◌, inl, inr, ℕ, ◌+◌, ◌<◌, ◌++◌, List, [], ◌∷◌, length, take, ap, ap₂, sym, ◌∙◌, subst}
+use Rattle.std.specs.Prelude.{slice_index_or, Contains}
 use Rattle.std.specs.Option.{option_map}
 use Rattle.std.proofs.lemmas.List.{map_push, take_more}
 use Rattle.int_vectors.specs.Vectors.{Each}
 use Rattle.cayley.specs.declared.found.FoundCell.{FoundCell}
-use Rattle.cayley.specs.declared.found.TieProof.{TieProof}
-use Rattle.cayley.specs.Times.{Time, IsBefore, time_zero}
-use Rattle.cayley.specs.Problems.{Problem, IsProblem, IsStill, HasNoCorners, HasRanks, file_points}
+use Rattle.cayley.specs.Times.{time_zero}
+use Rattle.cayley.specs.Problems.{Problem, IsProblem, IsStill, HasNoCorners, file_points}
 use Rattle.cayley.specs.Valid.{IsValidProblem}
 use Rattle.cayley.specs.Cells.{Cell, IsListOf}
-use Rattle.cayley.specs.Mixed.{IsAlive, IsMixedCell}
+use Rattle.cayley.specs.Mixed.{IsMixedCell}
 use Rattle.cayley.specs.TieProofs.{spot_of}
 use Rattle.cayley.proofs.Life.ShownTies.{shown_tie_law}
 use Rattle.cayley.proofs.Lists.Each.{each_append}
 use Rattle.cayley.proofs.Order.Lines.{before_trans}
 use Rattle.cayley.proofs.Order.Times.{never_before}
 use Rattle.cayley.proofs.Searching.Listing.{Has}
-use Rattle.cayley.proofs.Searching.Members.{has_contains, contains_has}
+use Rattle.cayley.proofs.Searching.Members.{has_contains}
 use Rattle.cayley.proofs.Searching.Shares.{list_has}
+use Rattle.cayley.specs.Stored.{cells_of}
+use Rattle.cayley.proofs.Searching.Steps.{each_in}
 use Rattle.inner_normal.specs.Workings.{FitsNormalWorking}
 use Rattle.searcher.specs.declared.expansions.HaltCause.{HaltCause}
 use Rattle.searcher.specs.declared.expansions.HaltCause.TheVariants.{Tie, Overflow, OutOfMemory}
 use Rattle.searcher.specs.Expansions.{HasLowestNormal, HasNoTie}
-use Rattle.searcher.specs.Passes.{IsReached, IsHaltOnTheWay, IsTieOnTheWay}
-use Rattle.searcher.specs.Searches.{cells_of}
-use Rattle.searcher.proofs.Turns.{each_in}
+use Rattle.searcher.specs.Passes.{IsReached, IsHaltOnTheWay}
 use Rattle.lift_move.specs.Segments.{IsSegment, IsGeneric, end_of}
 use Rattle.lift_move.specs.Moves.{AreMoved, IsMoveHalt, AreAll, FitAllOnTheWay, HasNoOverflow, AreUnfit, IsUnfitCell}
 use Rattle.lift_move.proofs.Ends.{own_points, end_alone, end_still, mixed_at_end}
@@ -41,11 +40,6 @@ pub next_normals : (p : Problem) (found new : List FoundCell) (f : FoundCell) �
 next_normals p found new f h before n = subst (λ l. Each l (HasLowestNormal p)) (sym n) (each_append (HasLowestNormal p) found (f ∷ []) before (h, tt))
 
 -- a cell that is read at a place is among the cells
-pub read_there : (cells : List Cell) (k : ℕ) (cell : Cell) → cell ≡ slice_index_or cells k cell → k < length cells → Has cell cells
-read_there [] k cell e l = absurd (omega (arith, l))
-read_there (x ∷ cells) zero cell e l = inl e
-read_there (x ∷ cells) (suc k) cell e l = inr (read_there cells k cell e (omega (arith, l)))
-
 pub unfit_among : (p : Problem) (cells : List Cell) (cell : Cell) (cause : HaltCause) → Has cell cells → IsUnfitCell p cell cause → AreUnfit p cells cause
 unfit_among p cells cell (Tie proof) h u = u
 unfit_among p cells cell (Overflow z) h u = (subst (λ c. Contains cells c) (sym u.0) (has_contains cells cell h), subst (λ c. ¬ (FitsNormalWorking p c)) (sym u.0) u.1)

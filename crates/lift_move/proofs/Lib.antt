@@ -1,7 +1,7 @@
-pub mod Ends
-pub mod Complete
+mod Ends
+mod Complete
 pub mod Lifted
 pub mod Found
 pub mod SegmentLaws
-pub mod Widths
+mod Widths
 pub mod MoveFormed

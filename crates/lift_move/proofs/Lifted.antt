@@ -1,17 +1,19 @@
 -- the file with the second heights, and its points as the end of a segment
 use Rattle.std.proofs.Common.{◌≡◌, ℕ, zero, suc, ◌+◌, ◌<◌, ◌≤◌, ◌++◌, List, [], ◌∷◌, length, map, take, drop, arith, refl, ap, ap₂, sym, ◌∙◌, subst}
 use Rattle.std.specs.Prelude.{slice_index_or, Option}
-use Rattle.std.proofs.lemmas.List.{length-map, map_push, take_more}
+use Rattle.std.proofs.lemmas.List.{length-map, map_push}
 use Rattle.std.proofs.lemmas.Int.{ints}
 use Rattle.std.proofs.Math.IntN.{ℤ, pos, ◌+ℤ◌, ◌-ℤ◌}
 use Rattle.int_vectors.specs.Vectors.{Each}
-use Rattle.cayley.specs.Problems.{Version, version1, Point, Problem, with_rank, ranked_supports}
-use Rattle.cayley.specs.Files.{FilePoint, File, resting, plain_problem, moved, moved_points, moved_supports, between_problem}
+use Rattle.cayley.specs.Problems.{Version, version1, Point, with_rank, ranked_supports}
+use Rattle.cayley.specs.Files.{FilePoint, File, resting, plain_problem, moved_points, moved_supports, between_problem}
 use Rattle.cayley.specs.Shapes.{HasSecondHeights, AreSecondHeights}
 use Rattle.cayley.specs.Stored.{file_point}
-use Rattle.cayley.specs.Valid.{IsCoordinate, IsHeight, IsWithinFile, IsValidFile, AreDistinct}
+use Rattle.cayley.specs.Valid.{IsHeight, IsWithinFile, IsValidFile, AreDistinct}
 use Rattle.cayley.specs.declared.points.FilePoint.{FilePoint as StoredFilePoint}
 use Rattle.cayley.proofs.Lists.Each.{map_at, map_take}
+use Rattle.cayley.proofs.OneCell.PlainProblems.{any}
+use Rattle.cayley.proofs.OneCell.MovedProblems.{taken}
 use Rattle.lift_move.specs.Segments.{arrived, end_of, departing, start_of, lifted, lifted_points, lifted_supports, second_of}
 
 -- ---- one more point, one more support
@@ -29,9 +31,6 @@ more_supports [] second k s hs l e = absurd (omega (arith, l))
 more_supports (t ∷ ss) [] k s hs l e = absurd (omega (arith, e))
 more_supports (t ∷ ss) (g ∷ second) zero s hs l e = refl
 more_supports (t ∷ ss) (g ∷ second) (suc k) s hs l e = ap (λ ps. lifted_points t g ∷ ps) (more_supports ss second k s hs (omega (arith, l)) (omega (arith, e)))
-
-taken : {A B : Type 0} (f : A → B) (k : ℕ) (xs : List A) → map f (take (k + 1) xs) ≡ take (suc k) (map f xs)
-taken f k xs = let e : k + 1 ≡ suc k = omega arith in ap (λ n. map f (take n xs)) e ∙ map_take f (suc k) xs
 
 pub next_lifted : (xs : List StoredFilePoint) (hs : List ℤ) (made new : List StoredFilePoint) (k : ℕ) (x : StoredFilePoint) (h : ℤ) (p : StoredFilePoint)
     → x ≡ slice_index_or xs k x → h ≡ slice_index_or hs k h → k < length xs → length hs ≡ length xs → file_point p ≡ lifted (file_point x) h
@@ -83,10 +82,6 @@ by_support P Q R f [] second e p q = tt
 by_support P Q R f (s ∷ ss) [] e p q = tt
 by_support P Q R f (s ∷ ss) (hs ∷ second) e p q = (f s hs (ap (λ (l : List ℕ). slice_index_or l 0 0) e) p.0 q.0, by_support P Q R f ss second (ap (λ (l : List ℕ). drop 1 l) e) p.1 q.1)
 
-any_each : {A : Type 0} (xs : List A) → Each xs (λ x. Unit {0})
-any_each [] = tt
-any_each (x ∷ xs) = (tt, any_each xs)
-
 lifted_counts : (ss : List (List FilePoint)) (second : List (List ℤ)) → map length second ≡ map length ss → map length (lifted_supports ss second) ≡ map length ss
 lifted_counts [] second e = refl
 lifted_counts (s ∷ ss) [] e = absurd (let l = ap length e in omega (arith, l))
@@ -102,16 +97,16 @@ module _ (file : File) (second : List (List ℤ)) (v : IsValidFile file) (h : Ar
           dimension = v.shape.dimension;
           supports = n ∙ v.shape.supports;
           counts = by_support (λ s. (1 ≤ length s) × (length s ≤ 1000)) (λ hs. Unit {0}) (λ s. (1 ≤ length s) × (length s ≤ 1000))
-              (λ s hs e p q. subst (λ m. (1 ≤ m) × (m ≤ 1000)) (sym (length-lifted s hs e)) p) ss second h.0 v.shape.counts (any_each second);
+              (λ s hs e p q. subst (λ m. (1 ≤ m) × (m ≤ 1000)) (sym (length-lifted s hs e)) p) ss second h.0 v.shape.counts (any second);
           points = by_support (λ s. Each s (λ (x : FilePoint). length x.coordinates ≡ file.dimension)) (λ hs. Unit {0}) (λ s. Each s (λ (x : FilePoint). length x.coordinates ≡ file.dimension))
-              (λ s hs e p q. each_lifted (λ (x : FilePoint). length x.coordinates ≡ file.dimension) (λ z. Unit {0}) (λ (x : FilePoint). length x.coordinates ≡ file.dimension) (λ x z a b. a) s hs p (any_each hs))
-              ss second h.0 v.shape.points (any_each second);
+              (λ s hs e p q. each_lifted (λ (x : FilePoint). length x.coordinates ≡ file.dimension) (λ z. Unit {0}) (λ (x : FilePoint). length x.coordinates ≡ file.dimension) (λ x z a b. a) s hs p (any hs))
+              ss second h.0 v.shape.points (any second);
           starts = v.shape.starts;
         };
         limits = by_support (λ s. Each s IsWithinFile) (λ hs. Each hs IsHeight) (λ s. Each s IsWithinFile)
             (λ s hs e p q. each_lifted IsWithinFile IsHeight IsWithinFile (λ x z a b. (a.0, b)) s hs p q) ss second h.0 v.limits h.1;
         distinct = by_support (λ s. AreDistinct (map (λ (x : FilePoint). x.coordinates) s)) (λ hs. Unit {0}) (λ s. AreDistinct (map (λ (x : FilePoint). x.coordinates) s))
-            (λ s hs e p q. subst AreDistinct (sym (same_coordinates s hs e)) p) ss second h.0 v.distinct (any_each second);
+            (λ s hs e p q. subst AreDistinct (sym (same_coordinates s hs e)) p) ss second h.0 v.distinct (any second);
         starts = v.starts;
       }
 

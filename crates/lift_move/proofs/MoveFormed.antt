@@ -1,15 +1,16 @@
 -- what is read as a move file is in form
-use Rattle.std.proofs.Common.{◌≡◌, ℕ, ◌≤◌, Bool, true, false, cond, ℤ, pos, neg_ℤ, List, [], ◌∷◌, ◌++◌, map, length, Ok, Err, refl, sym, ap, ap₂, subst, ◌∙◌, append_assoc, arith, length-append}
+use Rattle.std.proofs.Common.{◌≡◌, ℕ, ℤ, pos, neg_ℤ, List, [], ◌∷◌, ◌++◌, map, length, Ok, Err, refl, sym, ap, ap₂, subst, ◌∙◌, append_assoc, arith, length-append}
 use Rattle.std.specs.Prelude.{codes, bytes_eq, slice_index_or}
+use Rattle.wide_int.proofs.Bools.{by_test}
 use Rattle.int_vectors.specs.Vectors.{Each}
-use Rattle.cayley.specs.Problems.{Version, version1, version2}
-use Rattle.cayley.specs.Files.{File, FilePoint}
+use Rattle.cayley.specs.Problems.{Version, version1}
+use Rattle.cayley.specs.Files.{File}
 use Rattle.cayley.specs.Shapes.{AreSecondHeights}
 use Rattle.cayley.specs.Valid.{IsHeight, IsValidFile}
 use Rattle.cayley.specs.declared.limits.TheConstants.{HEIGHT}
 use Rattle.line_text.specs.Lines.{Row, lines_of, end_line_of}
 use Rattle.support_text.specs.declared.fault.Kind.TheVariants.{Header, Count, Number, Range}
-use Rattle.support_text.specs.Faults.{Reading, ◌>>=◌, fault, series}
+use Rattle.support_text.specs.Faults.{◌>>=◌, fault, series}
 use Rattle.support_text.specs.Words.{Text, words, word, number, nothing_more, next_line}
 use Rattle.support_text.specs.ProblemText.{version_word, header_line, dim_line, supports, ending, end_line, problem_at, no_line}
 use Rattle.support_text.proofs.Series.{bind_ok, ok_is}
@@ -59,10 +60,6 @@ second_ok counts end rows second e =
     (counts_kept [] counts [] a.0.0 refl r.0 r.1, each_of (λ hs. Each hs IsHeight) (AreNext counts) (λ before hs k. k.1) [] a.0.0 r.1)
 
 -- ---- the version
-by_test : {P : Type 0} (t : Bool) → (t ≡ true → P) → (t ≡ false → P) → P
-by_test true f g = f refl
-by_test false f g = g refl
-
 version_of_word : (line : ℕ) (xs r : List Text) (v : Version × List Text) → word (codes "1") Header line xs ≡ Ok r → version_word line xs ≡ Ok v → v.0 ≡ version1
 unfolding word version_word
 version_of_word line [] r v e f = absurd cc

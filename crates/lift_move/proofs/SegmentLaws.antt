@@ -1,26 +1,20 @@
 -- the laws of segments
-use Rattle.std.proofs.Common.{◌≡◌, ◌↔◌, ◌∙◌, ℕ, suc, List, [], ◌∷◌, length, map, drop, arith, refl, sym, ap, subst}
+use Rattle.std.proofs.Common.{◌≡◌, ◌∙◌, ℕ, suc, List, [], ◌∷◌, length, map, drop, arith, refl, sym, ap, subst}
 use Rattle.std.specs.Prelude.{ℤ, slice_index_or}
 use Rattle.cayley.specs.Times.{time_zero}
-use Rattle.cayley.specs.Problems.{version1, Problem, EachSupport, HasNoCorners, file_points}
-use Rattle.cayley.specs.Files.{FilePoint, File, moved, moved_points, moved_supports, plain_problem, between_problem}
-use Rattle.cayley.specs.Cells.{Cell}
-use Rattle.cayley.specs.Mixed.{IsAlive, IsMixedCell}
-use Rattle.cayley.specs.Shapes.{HasSecondHeights, AreSecondHeights}
-use Rattle.cayley.specs.Valid.{IsValidFile}
+use Rattle.cayley.specs.Problems.{EachSupport, HasNoCorners, file_points}
+use Rattle.cayley.specs.Files.{FilePoint, File, moved_supports, plain_problem, between_problem}
+use Rattle.cayley.specs.Mixed.{IsAlive}
+use Rattle.cayley.specs.Shapes.{HasSecondHeights}
 use Rattle.cayley.proofs.OneCell.PlainProblems.{plain_valid}
-use Rattle.lift_move.specs.Segments.{IsSegment, end_of, start_of, second_of}
+use Rattle.cayley.proofs.OneCell.MovedProblems.{length-moved}
+use Rattle.lift_move.specs.Segments.{IsSegment, start_of, second_of}
 use Rattle.lift_move.specs.Laws.{StartLaw, EndLaw, CompleteLaw}
 use Rattle.lift_move.proofs.Ends.{alive_at_start, own_points, start_alone, mixed_at_end}
 use Rattle.lift_move.proofs.Complete.{all_reached}
 use Rattle.lift_move.proofs.Lifted.{second_valid, plain_end, plain_start}
 
 -- a problem between two lifts is a segment
-length-moved : (s : List FilePoint) (hs : List ℤ) → length hs ≡ length s → length (moved_points s hs) ≡ length s
-length-moved [] hs e = refl
-length-moved (x ∷ s) [] e = absurd (omega (arith, e))
-length-moved (x ∷ s) (h ∷ hs) e = ap suc (length-moved s hs (omega (arith, e)))
-
 moved_alone : (i : ℕ) (ss : List (List FilePoint)) (second : List (List ℤ)) → map length second ≡ map length ss → EachSupport i (map length ss) (moved_supports ss second) (λ j f s. length s ≡ f)
 moved_alone i [] second e = tt
 moved_alone i (s ∷ ss) [] e = absurd (let l = ap length e in omega (arith, l))

@@ -1,17 +1,17 @@
 -- What a move along a segment finds.
-use Rattle.std.specs.Prelude.{◌≡◌, ◌⊎◌, List, map, Contains}
+use Rattle.std.specs.Prelude.{◌≡◌, ◌⊎◌, List, Contains}
 use Rattle.int_vectors.specs.Vectors.{Each}
 use Rattle.cayley.specs.declared.found.FoundCell.{FoundCell}
 use Rattle.cayley.specs.Times.{time_zero}
 use Rattle.cayley.specs.Problems.{Problem}
 use Rattle.cayley.specs.Cells.{Cell, IsListOf}
-use Rattle.cayley.specs.Mixed.{IsAlive, IsMixedCell}
+use Rattle.cayley.specs.Mixed.{IsAlive}
+use Rattle.cayley.specs.Stored.{cells_of}
 use Rattle.inner_normal.specs.Workings.{FitsNormalWorking}
 use Rattle.searcher.specs.declared.expansions.HaltCause.{HaltCause}
 use Rattle.searcher.specs.declared.expansions.HaltCause.TheVariants.{Tie, Overflow, OutOfMemory}
 use Rattle.searcher.specs.Expansions.{HasLowestNormal}
 use Rattle.searcher.specs.Passes.{IsReached, IsLedBy, IsTieOnTheWay}
-use Rattle.searcher.specs.Searches.{cells_of}
 use Rattle.searcher.specs.Workings.{FitsWorking}
 
 -- exactly the cells that are alive at time 1 and have a given cell in their chain, each once, in cell order, with its normal in lowest terms in the second problem

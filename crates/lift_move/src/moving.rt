@@ -1,3 +1,4 @@
+ghost use Rattle.cayley.specs.Stored.{cells_of};
 ghost use Rattle.std.specs.Prelude.{◌≡◌, [], IfOk, IfErr, MatchResult, Contains};
 ghost use Rattle.int_vectors.specs.Vectors.{Each};
 ghost use Rattle.inner_normal.specs.Workings.{FitsNormalWorking};
@@ -6,7 +7,6 @@ ghost use Rattle.cayley.specs.Mixed.{IsAlive, IsMixedCell};
 ghost use Rattle.cayley.specs.Problems.{HasNoCorners, IsStill, file_points};
 ghost use Rattle.cayley.specs.Times.{time_zero};
 ghost use Rattle.searcher.specs.Expansions.{HasLowestNormal, HasNoTie};
-ghost use Rattle.searcher.specs.Searches.{cells_of};
 ghost use Rattle.lift_move.specs.Segments.{IsSegment, IsGeneric, end_of};
 ghost use Rattle.lift_move.specs.Moves.{AreMoved, IsMoveHalt, AreAll, FitAllOnTheWay, HasNoOverflow, IsUnfitCell, AreUnfit};
 

@@ -1,6 +1,6 @@
-pub mod Places
+mod Places
 pub mod TokenLemmas
 pub mod LineLemmas
 pub mod NumberLemmas
-pub mod SliceLemmas
+mod SliceLemmas
 pub mod WrittenLines

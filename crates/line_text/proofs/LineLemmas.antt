@@ -6,7 +6,7 @@ use Rattle.std.proofs.lemmas.List.Sums.{prefix_len-le-length}
 use Rattle.line_text.specs.Tokens.{is_line_feed, content, tokens}
 use Rattle.line_text.specs.Lines.{split, onto_first, rows_from, with_row}
 use Rattle.std.proofs.lemmas.Bool.Decides.{nat_tests}
-use Rattle.line_text.proofs.TokenLemmas.{by_test}
+use Rattle.wide_int.proofs.Bools.{by_test}
 
 abbrev line_len : List ℕ → ℕ
 line_len bs = position_or_len is_line_feed bs

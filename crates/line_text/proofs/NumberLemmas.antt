@@ -14,20 +14,17 @@ use Rattle.std.proofs.lemmas.Bool.Decides.{nat_tests}
 use Rattle.std.proofs.lemmas.Fmt.{decimal_is_IsNumeral_wide}
 use Rattle.std.proofs.lemmas.Str.{IsUtf8-from_ascii}
 use Rattle.std.proofs.lemmas.Str.Parse.{digit_from_value}
+use Rattle.wide_int.proofs.Bools.{by_test}
 use Rattle.line_text.specs.Numbers.{are_digits, is_number, value_of, number_in, IsNumberByte}
 use Rattle.line_text.specs.Tokens.{token, tokens, ends_token, goes_on}
-use Rattle.line_text.proofs.TokenLemmas.{by_test, run_of}
+use Rattle.line_text.proofs.TokenLemmas.{run_of, and_parts}
 use Rattle.line_text.proofs.WrittenLines.{is_kept}
 use Rattle.line_text.specs.declared.numbers.BadNumber.{BadNumber}
 use Rattle.line_text.specs.declared.numbers.BadNumber.TheVariants.{Spelling, Outside}
 
-both : (x y : Bool) → (x && y) ≡ true → (x ≡ true) × (y ≡ true)
-both true y h = (refl, h)
-both false y h = cc
-
 -- ---- the digits of std's words
 
-digit_is : (c : ℕ) → is_ascii_digit c ≡ true → digit_value c < 10
+pub digit_is : (c : ℕ) → is_ascii_digit c ≡ true → digit_value c < 10
 digit_is c h =
     let low : nat_lt c 48 ≡ false = grind (arith, nat_tests, h) in
     let high : nat_lt c 58 ≡ true = grind (arith, nat_tests, h) in
@@ -37,9 +34,9 @@ digit_is c h =
 digit_from : (c : ℕ) → digit_value c < 10 → is_ascii_digit c ≡ true
 digit_from c h = let r = digit_from_value c h in grind (arith, nat_tests, r)
 
-AllDigits-from : (ds : List ℕ) → list_all is_ascii_digit ds ≡ true → AllDigits 10 ds
+pub AllDigits-from : (ds : List ℕ) → list_all is_ascii_digit ds ≡ true → AllDigits 10 ds
 AllDigits-from [] h = tt
-AllDigits-from (d ∷ ds) h = let p = both (is_ascii_digit d) (list_all is_ascii_digit ds) h in (digit_is d p.0, AllDigits-from ds p.1)
+AllDigits-from (d ∷ ds) h = let p = and_parts (is_ascii_digit d) (list_all is_ascii_digit ds) h in (digit_is d p.0, AllDigits-from ds p.1)
 
 list_all-from : (ds : List ℕ) → AllDigits 10 ds → list_all is_ascii_digit ds ≡ true
 list_all-from [] h = refl
@@ -50,7 +47,7 @@ pub IsNumeral-from : (text : List ℕ) → is_number text ≡ true → IsNumeral
 unfolding is_number
 IsNumeral-from text h =
     let ds = without_leading_sign text in
-    let p = both (nat_lt 0 (length ds)) (list_all is_ascii_digit ds) h in
+    let p = and_parts (nat_lt 0 (length ds)) (list_all is_ascii_digit ds) h in
     (grind (arith, nat_tests, p.0), AllDigits-from ds p.1)
 
 pub is_number-from : (text : List ℕ) → IsNumeral 10 (without_leading_sign text) → is_number text ≡ true
@@ -77,18 +74,18 @@ no_digits text ds is none =
     let same : false ≡ are_digits ds = rw empty refl in
     same ∙ ap are_digits is
 
--- what std's parsing says of a number
-pub parsed : {E : Type 0} (text bs : List ℕ) (r : Result ℤ E) → is_number text ≡ true → bs ≡ text → ParsesSigned w128 10 bs r
-    → SomeIff (result_ok r) (FitsSigned w128 (value_of text)) (value_of text)
+-- what std's parsing says of a text
+pub parsed : {E : Type 0} (text bs : List ℕ) (r : Result ℤ E) → bs ≡ text → ParsesSigned w128 10 bs r
+    → SomeIff (result_ok r) ((is_number text ≡ true) × FitsSigned w128 (value_of text)) (value_of text)
 unfolding value_of
-parsed {E = E} text bs (Ok v) number is parses =
+parsed {E = E} text bs (Ok v) is parses =
     let P : List ℕ → Type 0 = λ l. ParsesSigned {E = E} w128 10 l (Ok v) in
     let at : P text = subst P is parses in
-    (at.0.1, at.1)
-parsed {E = E} text bs (Err e) number is parses =
+    ((is_number-from text at.0.0, at.0.1), at.1)
+parsed {E = E} text bs (Err e) is parses =
     let P : List ℕ → Type 0 = λ l. ParsesSigned {E = E} w128 10 l (Err e) in
     let at : P text = subst P is parses in
-    λ fits. at (IsNumeral-from text number, fits)
+    λ h. at (IsNumeral-from text h.0, h.1)
 
 -- ---- a number's text is ASCII
 
@@ -180,7 +177,7 @@ of_test false h = cc
 
 in_range : (min max v : ℤ) → IsTrue (inside min max v) ↔ ((min ≤ℤ v) × (v ≤ℤ max))
 in_range min max v = (
-  λ within. let p = both (int_le min v) (int_le v max) within in (le_z_yes (of_test _ p.0), le_z_yes (of_test _ p.1)),
+  λ within. let p = and_parts (int_le min v) (int_le v max) within in (le_z_yes (of_test _ p.0), le_z_yes (of_test _ p.1)),
   λ p. let low = test_of (int_le min v) p.0.le in let high = test_of (int_le v max) p.1.le in rw (low, high) refl,
 )
 

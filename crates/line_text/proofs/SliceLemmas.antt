@@ -2,9 +2,10 @@
 use Rattle.std.proofs.Common.{◌≡◌, ℕ, suc, ◌+◌, ◌≤◌, Bool, true, false, cond, List, [], ◌∷◌, ◌++◌, length, take, drop, refl, ap, sym, ◌∙◌, subst, arith, append_assoc, append-nil, length-append, length-drop, ◌-◌, ◌==◌, slice_index}
 use Rattle.std.specs.List.{position_or_len}
 use Rattle.std.proofs.lemmas.List.{drop-drop, take-append-drop}
+use Rattle.wide_int.proofs.Bools.{by_test}
 use Rattle.line_text.specs.Tokens.{Word, token, tokens, widened, goes_on, is_blank, is_mark, is_line_feed, is_comment, ends_token, content, without_return}
 use Rattle.line_text.specs.Lines.{Row, IsSlice, StandInOrder, all_tokens, split, onto_first, rows_from, with_row}
-use Rattle.line_text.proofs.TokenLemmas.{by_test, no_token, blank_step, mark_step, run_step, run_token}
+use Rattle.line_text.proofs.TokenLemmas.{no_token, blank_step, mark_step, run_step, run_token}
 use Rattle.line_text.proofs.LineLemmas.{split-nil, split_at_feed, split_onto}
 
 -- ---- tokens in order

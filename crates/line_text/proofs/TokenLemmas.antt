@@ -3,6 +3,7 @@ use Rattle.std.proofs.Common.{◌≡◌, ◌||◌, ◌&&◌, ℕ, suc, ◌+◌, 
 use Rattle.std.specs.List.{position_or_len, list_all}
 use Rattle.std.proofs.lemmas.Bool.Decides.{nat_tests}
 use Rattle.std.proofs.lemmas.List.{drop_all}
+use Rattle.wide_int.proofs.Bools.{by_test, not_true}
 use Rattle.line_text.specs.Tokens.{Word, token, tokens, widened, goes_on, is_blank, is_mark, ends_token, begins_blank}
 
 -- a blank is skipped
@@ -18,7 +19,7 @@ pub mark_step : (place b : ℕ) (bs : List ℕ) → is_mark b ≡ true → token
 unfolding tokens
 mark_step place b bs mark = let solid = no_mark b mark in rw (solid, mark) refl
 
-neither : (x y : Bool) → (x || y) ≡ false → (x ≡ false) × (y ≡ false)
+pub neither : (x y : Bool) → (x || y) ≡ false → (x ≡ false) × (y ≡ false)
 neither true y h = cc
 neither false y h = (refl, h)
 
@@ -53,11 +54,6 @@ run_goes_on place b d ds run more rest =
     let longer : BeginsToken place b (d ∷ ds) (suc m) =
     run_step place b (d ∷ ds) run ∙ rw more (ap (widened place b) rest ∙ ap (λ k. token place (b ∷ d ∷ take m ds) ∷ tokens k (drop m ds)) behind) in
     subst (BeginsToken place b (d ∷ ds)) (sym (run_more d ds more)) longer
-
--- a test holds or fails
-pub by_test : {P : Type 0} (t : Bool) → (t ≡ true → P) → (t ≡ false → P) → P
-by_test true holds fails = holds refl
-by_test false holds fails = fails refl
 
 -- a run of bytes up to the next blank or mark is a token
 pub run_token : (place b : ℕ) (bs : List ℕ) → ends_token b ≡ false
@@ -113,24 +109,20 @@ token_left place n bs within same solid = (
 
 -- ---- laws on texts that are put together, for the crates above
 
-and_parts : (x y : Bool) → (x && y) ≡ true → (x ≡ true) × (y ≡ true)
+pub and_parts : (x y : Bool) → (x && y) ≡ true → (x ≡ true) × (y ≡ true)
 and_parts true y h = (refl, h)
 and_parts false y h = cc
-
-not_not : (x : Bool) → not x ≡ true → x ≡ false
-not_not true h = cc
-not_not false h = refl
 
 -- a run of bytes before a blank, a mark or the end is a token
 pub run_before : (place b : ℕ) (bs rest : List ℕ) → list_all (λ x. not (ends_token x)) (b ∷ bs) ≡ true → goes_on rest ≡ false
     → tokens place ((b ∷ bs) ++ rest) ≡ token place (b ∷ bs) ∷ tokens (place + length (b ∷ bs)) rest
 run_before place b [] rest plain stop =
-    let run : ends_token b ≡ false = not_not (ends_token b) (and_parts _ _ plain).0 in
+    let run : ends_token b ≡ false = not_true (ends_token b) (and_parts _ _ plain).0 in
     run_step place b rest run ∙ rw stop refl
 run_before place b (d ∷ ds) rest plain stop =
     let first = and_parts (not (ends_token b)) (list_all (λ x. not (ends_token x)) (d ∷ ds)) plain in
-    let run : ends_token b ≡ false = not_not (ends_token b) first.0 in
-    let more : ends_token d ≡ false = not_not (ends_token d) (and_parts (not (ends_token d)) _ first.1).0 in
+    let run : ends_token b ≡ false = not_true (ends_token b) first.0 in
+    let more : ends_token d ≡ false = not_true (ends_token d) (and_parts (not (ends_token d)) _ first.1).0 in
     let behind : place + 1 + suc (length ds) ≡ place + suc (suc (length ds)) = omega arith in
     run_step place b (d ∷ ds ++ rest) run
     ∙ rw more (ap (widened place b) (run_before (place + 1) d ds rest first.1 stop) ∙ ap (λ k. token place (b ∷ d ∷ ds) ∷ tokens k rest) behind)

@@ -6,6 +6,7 @@ use Rattle.std.proofs.lemmas.List.Sums.{AllPass-from_list_all, position_or_len_i
 use Rattle.line_text.specs.Tokens.{is_line_feed, is_comment, content, tokens}
 use Rattle.line_text.specs.Lines.{split, onto_first, rows_from, with_row}
 use Rattle.line_text.proofs.LineLemmas.{split_at_feed, split_onto, rows_of_line}
+use Rattle.line_text.proofs.TokenLemmas.{and_parts}
 
 -- the byte doesn't end a line or begin a comment
 abbrev pub is_kept : ℕ → Bool
@@ -17,15 +18,11 @@ kept_parts false true z h = cc
 kept_parts false false true h = cc
 kept_parts false false false h = (refl, refl, refl)
 
-both : (x y : Bool) → (x && y) ≡ true → (x ≡ true) × (y ≡ true)
-both true y h = (refl, h)
-both false y h = cc
-
 -- such bytes before a line feed are a line
 pub line_before : (l rest : List ℕ) → list_all is_kept l ≡ true → split (l ++ 10 ∷ rest) ≡ l ∷ split rest
 line_before [] rest kept = split_at_feed 10 rest refl
 line_before (b ∷ l) rest kept =
-    let p = both (is_kept b) (list_all is_kept l) kept in
+    let p = and_parts (is_kept b) (list_all is_kept l) kept in
     let other : is_line_feed b ≡ false = (kept_parts (is_line_feed b) (b == 13) (is_comment b) p.0).0 in
     split_onto b (l ++ 10 ∷ rest) other ∙ ap (onto_first b) (line_before l rest p.1)
 

@@ -22,7 +22,8 @@ pub enum BadNumber {
     Outside,
 }
 
-/// Reads a number from `min` to `max`, written with any count of digits and leading zeros.
+/// Reads a number from `min` to `max`, written with any count of digits and leading zeros; `min` is at most `max`.
+/// `Spelling` where the token isn't spelled as a number, else `Outside` where its value isn't in the range.
 pub fn read_int(token: &Token, min: i128, max: i128) -> Result<i128, BadNumber>
     requires { min ≤ℤ max }
     ensures spelling { (result ≡ Err BadNumber.Spelling) ↔ ¬ (IsTrue (spec.is_number token.now.text.now)) }
@@ -39,11 +40,11 @@ pub fn read_int(token: &Token, min: i128, max: i128) -> Result<i128, BadNumber>
 fn number_within(text: &[u8], min: i128, max: i128) -> Result<i128, BadNumber>
     ensures { result ≡ number_in min max text.now }
 {
-    if !is_number(text) {
-        return Err(BadNumber::Spelling);
-    }
     let Some(value) = number_value(text) else {
-        return Err(BadNumber::Outside);
+        if is_number(text) {
+            return Err(BadNumber::Outside);
+        }
+        return Err(BadNumber::Spelling);
     };
     if min <= value && value <= max {
         return Ok(value);
@@ -51,13 +52,12 @@ fn number_within(text: &[u8], min: i128, max: i128) -> Result<i128, BadNumber>
     Err(BadNumber::Outside)
 }
 
-// The value of a number, unless it needs more than 128 bits.
+// The value of a number of up to 128 bits.
 fn number_value(text: &[u8]) -> Option<i128>
-    requires { IsTrue (spec.is_number text.now) }
-    ensures { SomeIff result (FitsSigned w128 (value_of text.now)) (value_of text.now) }
+    ensures { SomeIff result (IsTrue (spec.is_number text.now) × FitsSigned w128 (value_of text.now)) (value_of text.now) }
 {
     let Ok(text) = str::from_utf8(text) else {
-        unreachable!()
+        return None;
     };
     text.parse().ok()
 }

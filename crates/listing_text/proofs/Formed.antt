@@ -1,11 +1,11 @@
 -- What is read as a listing is in form.
-use Rattle.std.proofs.Common.{◌≡◌, ℕ, ◌-◌, ◌^◌, ◌<◌, ◌≤◌, Bool, true, false, cond, ℤ, pos, neg_ℤ, List, [], ◌∷◌, ◌++◌, map, length, Option, Ok, Err, refl, sym, ap, subst, ◌∙◌, append_assoc, arith, length-append}
+use Rattle.std.proofs.Common.{◌≡◌, ℕ, ◌-◌, ◌^◌, ◌<◌, ◌≤◌, Bool, true, false, cond, ℤ, pos, neg_ℤ, List, [], ◌∷◌, ◌++◌, map, length, Ok, Err, refl, sym, ap, subst, ◌∙◌, append_assoc, arith, length-append}
 use Rattle.std.specs.Prelude.{codes, nat_lt, slice_index_or, unsigned_abs}
 use Rattle.std.proofs.lemmas.Bool.Decides.{Decides-ltb}
 use Rattle.std.proofs.lemmas.Int.{ints}
 use Rattle.std.proofs.lemmas.List.{length-map}
 use Rattle.int_vectors.specs.Vectors.{Each}
-use Rattle.cayley.specs.Problems.{Version, unperturbed, HasSamePoints}
+use Rattle.cayley.specs.Problems.{unperturbed, HasSamePoints}
 use Rattle.cayley.specs.Cells.{Cell, EachPair}
 use Rattle.cayley.specs.Files.{File, FilePoint, resting, plain_problem}
 use Rattle.cayley.specs.Valid.{IsValidFile}
@@ -21,16 +21,13 @@ use Rattle.support_text.specs.ProblemText.{header_line, dim_line, supports, endi
 use Rattle.support_text.proofs.Series.{bind_ok, ok_is}
 use Rattle.support_text.proofs.Kept.{KeepsEach, series_all, each_of, next_line_ok, number_within}
 use Rattle.support_text.proofs.ValidFiles.{dim_within, supports_within, ending_within, file_within}
+use Rattle.support_text.proofs.ReadProblem.{made as file_of}
 use Rattle.listing_text.specs.declared.listing.ListedCell.{ListedCell}
 use Rattle.listing_text.specs.ListingText.{Listed, cells_line, pair, pair_at, normal_entry, cell_line, cell_at, Part, next_number, part_at, cells_at, cells_through, counts_of, listing_of, listing_at}
 use Rattle.listing_text.specs.Forms.{IsCellOf, IsEntry, IsFormed, found_of, IsOfFile}
 use Rattle.listing_text.proofs.ListingBack.{at_seam}
 
 -- ---- the file
-
-abbrev file_of : Version → ℕ → List (List FilePoint) → Option (List (List ℤ)) → File
-file_of version n points starts = record { version = version; dimension = n; supports = points; starts = starts }
-
 pub problem_valid : (end : ℕ) (rows : List Row) (x : File × List Row) → problem_at end rows ≡ Ok x → IsValidFile x.0
 unfolding problem_at
 problem_valid end rows x e =

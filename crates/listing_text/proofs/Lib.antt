@@ -1,5 +1,5 @@
 pub mod Written
 pub mod Limits
-pub mod Counts
+mod Counts
 pub mod ListingBack
 pub mod Formed

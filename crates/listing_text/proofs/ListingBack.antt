@@ -11,14 +11,15 @@ use Rattle.cayley.specs.Files.{File, FilePoint}
 use Rattle.cayley.specs.Valid.{IsValidFile}
 use Rattle.cayley.specs.declared.found.FoundCell.{FoundCell}
 use Rattle.line_text.specs.Lines.{Row, lines_of, end_line_of}
+use Rattle.cayley.proofs.Lists.Each.{each_append}
 use Rattle.support_text.specs.declared.fault.Kind.TheVariants.{Count, Number, Range}
 use Rattle.support_text.specs.Faults.{series}
 use Rattle.support_text.specs.Words.{Text, words, word, nothing_more, next_line}
 use Rattle.support_text.specs.ProblemText.{end_line, problem_at, no_line}
 use Rattle.support_text.specs.Writing.{problem_lines}
 use Rattle.support_text.proofs.Series.{Chain, ReadsEach, series_again}
-use Rattle.support_text.proofs.ReadBack.{AreLines, AreSmall, ReadsWords, lines_are, lines_split, next_again, number_again, numbers_again, end_again, file_again}
-use Rattle.support_text.proofs.WrittenWords.{IsWord, IsLine, plain_word, mark_word, number_word, lines_again, each-append, each-map}
+use Rattle.support_text.proofs.ReadBack.{AreLines, AreSmall, ReadsWords, lines_are, lines_split, next_again, number_again, numbers_again, end_again, file_again, natural_width}
+use Rattle.support_text.proofs.WrittenWords.{IsWord, IsLine, plain_word, mark_word, number_word, lines_again, each-map}
 use Rattle.support_text.proofs.FileTexts.{file_lines, valid_is_read, count_word}
 use Rattle.listing_text.specs.declared.listing.ListedCell.{ListedCell}
 use Rattle.listing_text.specs.ListingText.{cells_line, pair, pair_at, cell_line, cell_at, Part, next_number, part_at, cells_at, counts_of, listing_of}
@@ -27,15 +28,11 @@ use Rattle.listing_text.specs.Forms.{IsCellOf, IsEntry, IsFormed, found_of, Mean
 use Rattle.listing_text.proofs.Limits.{entry_width}
 
 -- ---- pairs
-
-position_width : (k m : ℕ) → k ≤ m → m < 2 ^ 127 → FitsSigned w128 (pos k)
-position_width k m h lt = record { sfits = omega arith }
-
 pair_again : (m a b line : ℕ) (ws : List Text) → 1 ≤ a → a < b → b ≤ m → m < 2 ^ 127 → pair m line (decimal a ∷ decimal b ∷ ws) ≡ Ok ((a, b), ws)
 unfolding pair
 pair_again m a b line ws least rise most small =
-    let first = number_again (pos 1) (pos m) Number Range line (pos a) (decimal b ∷ ws) (omega (arith, ints), omega (arith, ints)) (position_width a m (omega arith) small) in
-    let second = number_again (pos 1) (pos m) Number Range line (pos b) ws (omega (arith, ints), omega (arith, ints)) (position_width b m most small) in
+    let first = number_again (pos 1) (pos m) Number Range line (pos a) (decimal b ∷ ws) (omega (arith, ints), omega (arith, ints)) (natural_width a m (omega arith) small) in
+    let second = number_again (pos 1) (pos m) Number Range line (pos b) ws (omega (arith, ints), omega (arith, ints)) (natural_width b m most small) in
     let less : nat_lt a b ≡ true = (Decides-ltb a b).1 rise in
     rw (first, second, less) refl
 
@@ -132,7 +129,7 @@ unmapped P f (x ∷ xs) h = (h.0, unmapped P f xs h.1)
 count_again : (k : ℕ) → k ≤ 4294967295 → ReadsWords cells_line (codes "cells" ∷ decimal k ∷ []) k
 unfolding cells_line word nothing_more
 count_again k most line =
-    let count = number_again (pos 0) (pos 4294967295) Count Count line (pos k) [] (omega (arith, ints), omega (arith, ints)) (position_width k 4294967295 most (lit< tt)) in
+    let count = number_again (pos 0) (pos 4294967295) Count Count line (pos k) [] (omega (arith, ints), omega (arith, ints)) (natural_width k 4294967295 most (lit< tt)) in
     rw count refl
 
 -- the lines behind the file
@@ -173,8 +170,8 @@ cell_is_line counts x small formed =
     let slash : IsWord (codes "/") = mark_word 47 refl refl in
     let den = number_word x.normal.den (over_width (2 ^ 127 - 1) x.normal.den formed.den.0 formed.den.1 (lit< tt)) in
     let entries = each-map IsWord IsEntry signed_decimal (λ z p. number_word z (entry_width z p.0 p.1)) x.normal.v formed.entries in
-    let behind = each-append IsWord (map signed_decimal x.normal.v) (codes "/" ∷ signed_decimal x.normal.den ∷ []) entries (slash, (den, tt)) in
-    let body = each-append IsWord (position_words x.cell) (codes ":" ∷ (map signed_decimal x.normal.v ++ codes "/" ∷ signed_decimal x.normal.den ∷ []))
+    let behind = each_append IsWord (map signed_decimal x.normal.v) (codes "/" ∷ signed_decimal x.normal.den ∷ []) entries (slash, (den, tt)) in
+    let body = each_append IsWord (position_words x.cell) (codes ":" ∷ (map signed_decimal x.normal.v ++ codes "/" ∷ signed_decimal x.normal.den ∷ []))
     (positions_are_words counts x.cell formed.cell small) (colon, behind) in
     (omega arith, (head, body))
 
@@ -182,7 +179,7 @@ pub cells_are_lines : (counts : List ℕ) (found : List FoundCell) → Each coun
 cells_are_lines counts found small formed few =
     let head : IsWord (codes "cells") = plain_word 99 (101 ∷ 108 ∷ 108 ∷ 115 ∷ []) refl refl in
     let last : IsWord (codes "end") = plain_word 101 (110 ∷ 100 ∷ []) refl refl in
-    let body = each-append IsLine (map cell_words found) ((codes "end" ∷ []) ∷ []) (each-map IsLine (IsFormed counts) cell_words (λ x p. cell_is_line counts x small p) found formed) ((omega arith, (last, tt)), tt) in
+    let body = each_append IsLine (map cell_words found) ((codes "end" ∷ []) ∷ []) (each-map IsLine (IsFormed counts) cell_words (λ x p. cell_is_line counts x small p) found formed) ((omega arith, (last, tt)), tt) in
     ((omega arith, (head, (count_word (length found) 4294967295 few (lit< tt), tt))), body)
 
 -- ---- the law
@@ -202,7 +199,7 @@ listing_back file found valid formed few =
     let rows = lines_of bytes in
     let counts = counts_of file in
     let small = small_counts file.supports valid.shape.counts in
-    let are = each-append IsLine (problem_lines file) (cells_lines found) (file_lines file valid) (cells_are_lines counts found small formed few) in
+    let are = each_append IsLine (problem_lines file) (cells_lines found) (file_lines file valid) (cells_are_lines counts found small formed few) in
     let same : map words rows ≡ listing_lines file found = lines_again (listing_lines file found) are in
     let lines : AreLines (listing_lines file found) rows [] = subst (λ (wss : List (List Text)). AreLines wss rows []) same (lines_are rows) in
     let parts = lines_split (problem_lines file) (cells_lines found) rows [] lines in

@@ -19,12 +19,12 @@ pub struct Listing {
     pub cells: Vec<ListedCell>,
 }
 
-/// The cell lines of a text, with the lines before and behind them.
+/// The cell lines of a text, with the numbers of the lines `cells K` and `end` round them.
 #[derive(Drop)]
 pub struct CellPart {
     /// The number of the line `cells K`, from 1.
     pub cells_line: u64,
     pub cells: Vec<ListedCell>,
-    /// The number of the line `end`.
+    /// The number of the line `end`, from 1.
     pub end_line: u64,
 }

@@ -1,8 +1,8 @@
-pub mod Shapes
-pub mod Law
-pub mod Steps
-pub mod Makes
-pub mod MakeLaw
+mod Shapes
+mod Law
+mod Steps
+mod Makes
+mod MakeLaw
 pub mod Caller
 pub mod Numbers
 pub mod Words

@@ -1,10 +1,9 @@
 -- What the words and the input call for is one outcome.
-use Rattle.std.proofs.Common.{◌≡◌, ◌⊎◌, ℕ, ◌<◌, ◌≤◌, ◌∙◌, List, length, Option, None, Some, Result, Ok, Err, Bool, IsTrue, true, false, nat_le, take, refl, sym, ap, subst, arith, inl, inr}
-use native.Mathlib.Decide.{ℕ_discrete, dec_lt}
+use Rattle.std.proofs.Common.{◌≡◌, ◌⊎◌, ℕ, ◌≤◌, ◌∙◌, List, length, Option, None, Some, Result, Ok, Err, IsTrue, false, nat_le, take, refl, sym, ap, subst, arith, inl, inr}
 use Rattle.cayley.specs.Problems.{Problem}
 use Rattle.cayley.specs.Cells.{Cell}
 use Rattle.cayley.specs.Files.{File, plain_problem}
-use Rattle.cayley.proofs.Searching.Listing.{compare_cells}
+use Rattle.cayley.proofs.Searching.Listing.{compare_cells, three_ways}
 use Rattle.support_text.specs.declared.fault.FormatFault.{FormatFault}
 use Rattle.support_text.specs.ProblemText.{problem_of}
 use Rattle.listing_text.specs.Listings.{IsListingOf}
@@ -34,10 +33,9 @@ use Rattle.mixedcells.proofs.CommandLine.Words.{one_meaning}
 use Rattle.mixedcells.proofs.Readings.{ok_once, err_once, not_both}
 use Rattle.mixedcells.proofs.Checks.{one_check_reply}
 use Rattle.mixedcells.proofs.Powered.{one_powers_reply}
+use Rattle.mixedcells.proofs.MoveReplies.{one_move_reply}
 use Rattle.mixedcells.proofs.SystemReplies.{one_system_reply}
-
-three_ways : {P : Type 0} (m n : ℕ) → (m < n → P) → (m ≡ n → P) → (n < m → P) → P
-three_ways m n f g h = elim (dec_lt m n) [ yes p ↦ f p | no q ↦ elim (ℕ_discrete m n) [ yes e ↦ g e | no r ↦ h (omega arith) ] ]
+use Rattle.mixedcells.proofs.Teams.{unlike}
 
 one_excess : (p : Problem) (c d : ℕ) → IsExcess p c → IsExcess p d → c ≡ d
 one_excess p c d h k =
@@ -211,6 +209,7 @@ AreAlikeOf (verb.List n) o q = (nat_le 2 n ≡ false) × IsWalkEnd o × IsWalkEn
 AreAlikeOf (verb.Sum n) o q = (nat_le 2 n ≡ false) × IsWalkEnd o × IsWalkEnd q
 AreAlikeOf verb.Check o q = ⊥
 AreAlikeOf verb.Generic o q = AreTiesOfOne o q
+AreAlikeOf verb.Move o q = IsWalkEnd o × IsWalkEnd q
 AreAlikeOf verb.Powers o q = ⊥
 AreAlikeOf (verb.Poly seed) o q = ⊥
 AreAlikeOf (verb.Make family seed) o q = ⊥
@@ -220,22 +219,19 @@ loose_of words verb.Plain o q means a = absurd a
 loose_of words (verb.List n) o q means a = inl ((n, a.0, inl means), a.1, a.2)
 loose_of words (verb.Sum n) o q means a = inl ((n, a.0, inr means), a.1, a.2)
 loose_of words verb.Check o q means a = absurd a
-loose_of words verb.Generic o q means a = inr (means, a)
+loose_of words verb.Generic o q means a = inr (inl (means, a))
+loose_of words verb.Move o q means a = inr (inr (means, a.0, a.1))
 loose_of words verb.Powers o q means a = absurd a
 loose_of words (verb.Poly seed) o q means a = absurd a
 loose_of words (verb.Make family seed) o q means a = absurd a
-
-one_or_team : {P : Type 0} (b : Bool) → b ≡ false → IsTrue b → P
-one_or_team true e f = cc
-one_or_team false e f = cc
 
 one_alone_reply : (n : ℕ) (W : File → List ℕ → Type 0) (bytes : List ℕ) (o q : Outcome) (t u : List ℕ) → IsAloneReply n W bytes o t → IsAloneReply n W bytes q u
     → (o ≡ q) ⊎ ((nat_le 2 n ≡ false) × IsWalkEnd o × IsWalkEnd q)
 one_alone_reply n W bytes o q t u (inl h) (inl k) =
     one_file_reply (IsWalkReply W) (λ x y. (nat_le 2 n ≡ false) × IsWalkEnd x × IsWalkEnd y) (λ file x y v w a b. inr (h.0, walk_end W file x v a, walk_end W file y w b))
     bytes o q t u h.1 k.1
-one_alone_reply n W bytes o q t u (inl h) (inr k) = one_or_team (nat_le 2 n) h.0 k.0
-one_alone_reply n W bytes o q t u (inr h) (inl k) = one_or_team (nat_le 2 n) k.0 h.0
+one_alone_reply n W bytes o q t u (inl h) (inr k) = unlike (nat_le 2 n) h.0 k.0
+one_alone_reply n W bytes o q t u (inr h) (inl k) = unlike (nat_le 2 n) k.0 h.0
 one_alone_reply n W bytes o q t u (inr h) (inr k) = inl (h.1 ∙ sym k.1)
 
 one_reply : (command : Command) (bytes : List ℕ) (o q : Outcome) (t u : List ℕ) → IsReply command bytes o t → IsReply command bytes q u → (o ≡ q) ⊎ AreAlikeOf command o q
@@ -244,6 +240,7 @@ one_reply (verb.List n) bytes o q t u h k = one_alone_reply n IsReachedListing b
 one_reply (verb.Sum n) bytes o q t u h k = one_alone_reply n IsReachedSum bytes o q t u h k
 one_reply verb.Check bytes o q t u h k = inl (one_check_reply bytes o q t u h k)
 one_reply verb.Generic bytes o q t u h k = one_file_reply IsTieReply AreTiesOfOne one_tie_reply bytes o q t u h k
+one_reply verb.Move bytes o q t u h k = one_move_reply bytes o q t u h k
 one_reply verb.Powers bytes o q t u h k = inl (one_powers_reply bytes o q t u h k)
 one_reply (verb.Poly seed) bytes o q t u h k = inl (one_system_reply seed bytes o q t u h k)
 one_reply (verb.Make family seed) bytes o q t u h k = inl (h.0 ∙ sym k.0)

@@ -1,12 +1,12 @@
 -- The working of a cell of file points is the same where the file points stand alone.
-use Rattle.std.proofs.Common.{◌≡◌, ◌≢◌, ◌∙◌, ◌<◌, ◌≤◌, ℕ, zero, suc, ℤ, pos, List, [], ◌∷◌, length, Ok, arith, refl, sym, ap, ap₂, subst, subst₂}
+use Rattle.std.proofs.Common.{◌≡◌, ◌∙◌, ◌<◌, ◌≤◌, ℕ, zero, suc, ℤ, List, [], ◌∷◌, length, arith, refl, sym, ap, ap₂, subst, subst₂}
 use Rattle.int_vectors.specs.Vectors.{sub}
 use Rattle.cayley.specs.Problems.{Point, Problem, IsStill, HasRanks, point_at, with_rank, file_points}
 use Rattle.cayley.specs.Valid.{IsMoving, IsValidFile}
 use Rattle.cayley.specs.Files.{File, plain_problem}
 use Rattle.cayley.specs.Paths.{path}
 use Rattle.cayley.specs.Cells.{Cell, EachPair, IsOf, IsFurther}
-use Rattle.cayley.specs.Dependencies.{support_at, pair_at}
+use Rattle.cayley.specs.Dependencies.{pair_at, nth_support}
 use Rattle.cayley.specs.Rows.{edge_row, edge_rows_from, edge_rows}
 use Rattle.cayley.proofs.OneCell.FilePointRanks.{Alike, Alikes, file_points_alike}
 use Rattle.reduced_rows.specs.Steps.{elimination, FitsElimination}
@@ -80,10 +80,10 @@ module _ (gs : List ℕ) where
   )
 
   -- a further point is one, and stands as far from its pair
-  same_further : (ss us : List (List Point)) (cell : Cell) (j c : ℕ) → Alikes gs ss us → EachPair us cell InRange → IsFurther (support_at us j) (pair_at cell j).0 (pair_at cell j).1 c
-      → IsFurther (support_at ss j) (pair_at cell j).0 (pair_at cell j).1 c
-      × (sub (point_at (support_at ss j) c).coordinates (point_at (support_at ss j) (pair_at cell j).0).coordinates
-      ≡ sub (point_at (support_at us j) c).coordinates (point_at (support_at us j) (pair_at cell j).0).coordinates)
+  same_further : (ss us : List (List Point)) (cell : Cell) (j c : ℕ) → Alikes gs ss us → EachPair us cell InRange → IsFurther (nth_support us j) (pair_at cell j).0 (pair_at cell j).1 c
+      → IsFurther (nth_support ss j) (pair_at cell j).0 (pair_at cell j).1 c
+      × (sub (point_at (nth_support ss j) c).coordinates (point_at (nth_support ss j) (pair_at cell j).0).coordinates
+      ≡ sub (point_at (nth_support us j) c).coordinates (point_at (nth_support us j) (pair_at cell j).0).coordinates)
   same_further [] [] cell j c a r f = absurd (let l = f.0 in let m = f.1 in omega (arith, l, m))
   same_further [] (u ∷ us) cell j c a r f = absurd a
   same_further (s ∷ ss) [] cell j c a r f = absurd a

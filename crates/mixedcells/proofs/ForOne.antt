@@ -1,5 +1,5 @@
 -- Words for several searchers, and the same for one.
-use Rattle.std.proofs.Common.{◌≡◌, ◌⊎◌, ◌≤◌, ◌∙◌, ℕ, List, [], ◌∷◌, Option, Some, None, Bool, true, false, nat_le, codes, IsTrue, arith, refl, sym, ap, subst, inl, inr}
+use Rattle.std.proofs.Common.{◌≡◌, ◌≤◌, ℕ, List, [], ◌∷◌, Option, Some, None, Bool, true, false, nat_le, codes, IsTrue, arith, refl, sym, subst, inl, inr}
 use Rattle.std.specs.Prelude.{if◌then◌else◌}
 use Rattle.std.proofs.lemmas.Bool.Decides.{nat_tests}
 use Rattle.clap.specs.Walk.{Text}
@@ -9,7 +9,7 @@ use Rattle.mixedcells.specs.declared.outcome.Outcome.{Outcome}
 use Rattle.mixedcells.specs.Words.{Means, HasMeaning, IsForTeam, IsReading, IsWalking, command_for, needs_team, reads}
 use Rattle.mixedcells.specs.ByMany.{by_one, searchers_of, words_by_one, for_one, IsJourney}
 use Rattle.mixedcells.specs.Runs.{IsInput, IsAnswer, IsCalledFor}
-use Rattle.mixedcells.proofs.CommandLine.Words.{one_meaning, team_of}
+use Rattle.mixedcells.proofs.CommandLine.Words.{team_of}
 use Rattle.mixedcells.proofs.CommandLine.Ranges.{searchers_fit}
 
 chosen : {X : Type 0} (b : Bool) (x y : X) → IsTrue b → (if b then x else y) ≡ x
@@ -32,6 +32,7 @@ same_words (Some (verb.List n)) words f = other (nat_le 2 n) (codes "list" ∷ [
 same_words (Some (verb.Sum n)) words f = other (nat_le 2 n) (codes "sum" ∷ []) words (f (verb.Sum n) refl)
 same_words (Some verb.Check) words f = refl
 same_words (Some verb.Generic) words f = refl
+same_words (Some verb.Move) words f = refl
 same_words (Some verb.Powers) words f = refl
 same_words (Some (verb.Poly seed)) words f = refl
 same_words (Some (verb.Make family seed)) words f = refl
@@ -51,6 +52,7 @@ meant_by None words c e means l = cc
 meant_by (Some verb.Plain) words c e means l = let same : verb.Plain ≡ c = cc in subst (λ d. Means words (by_one d)) same (subst (Means words) (sym same) means)
 meant_by (Some verb.Check) words c e means l = let same : verb.Check ≡ c = cc in subst (λ d. Means words (by_one d)) same (subst (Means words) (sym same) means)
 meant_by (Some verb.Generic) words c e means l = let same : verb.Generic ≡ c = cc in subst (λ d. Means words (by_one d)) same (subst (Means words) (sym same) means)
+meant_by (Some verb.Move) words c e means l = let same : verb.Move ≡ c = cc in subst (λ d. Means words (by_one d)) same (subst (Means words) (sym same) means)
 meant_by (Some verb.Powers) words c e means l = let same : verb.Powers ≡ c = cc in subst (λ d. Means words (by_one d)) same (subst (Means words) (sym same) means)
 meant_by (Some (verb.Poly seed)) words c e means l = let same : verb.Poly seed ≡ c = cc in subst (λ d. Means words (by_one d)) same (subst (Means words) (sym same) means)
 meant_by (Some (verb.Make f s)) words c e means l = let same : verb.Make f s ≡ c = cc in subst (λ d. Means words (by_one d)) same (subst (Means words) (sym same) means)
@@ -84,6 +86,7 @@ alone_by (verb.List n) = refl
 alone_by (verb.Sum n) = refl
 alone_by verb.Check = refl
 alone_by verb.Generic = refl
+alone_by verb.Move = refl
 alone_by verb.Powers = refl
 alone_by (verb.Poly seed) = refl
 alone_by (verb.Make family seed) = refl
@@ -110,6 +113,7 @@ reads_by_one (verb.List n) h = refl
 reads_by_one (verb.Sum n) h = refl
 reads_by_one verb.Check h = cc
 reads_by_one verb.Generic h = cc
+reads_by_one verb.Move h = cc
 reads_by_one verb.Powers h = cc
 reads_by_one (verb.Poly seed) h = cc
 reads_by_one (verb.Make family seed) h = cc

@@ -1,17 +1,19 @@
-pub mod CommandLine
-pub mod Ended
-pub mod Readings
-pub mod Checks
-pub mod Powered
-pub mod SystemReplies
-pub mod Exact
-pub mod Listings
-pub mod FileWorkings
-pub mod Spared
-pub mod Judged
-pub mod Walking
-pub mod AlongPaths
-pub mod Teams
-pub mod ForOne
-pub mod QuietFiles
-pub mod LiftedSystems
+mod CommandLine
+mod Ended
+mod Readings
+mod Checks
+mod Powered
+mod SystemReplies
+mod MoveReplies
+mod Moved
+mod Exact
+mod Listings
+mod FileWorkings
+mod Spared
+mod Judged
+mod Walking
+mod AlongPaths
+mod Teams
+mod ForOne
+mod QuietFiles
+mod LiftedSystems

@@ -6,12 +6,12 @@ use Rattle.cayley.specs.Cells.{Cell, IsListOf}
 use Rattle.cayley.specs.Mixed.{IsMixedCell}
 use Rattle.cayley.specs.Files.{File, plain_problem}
 use Rattle.cayley.specs.declared.found.FoundCell.{FoundCell}
+use Rattle.cayley.specs.Stored.{cells_of}
 use Rattle.listing_text.specs.Writing.{listing_text}
 use Rattle.plain_lister.specs.Choices.{HasTooMany}
 use Rattle.plain_lister.specs.declared.faults.PlainFault.{PlainFault}
 use Rattle.plain_lister.specs.declared.faults.PlainFault.TheVariants.{Overflow}
 use Rattle.plain_lister.specs.Lists.{HasLowestNormal, AllFit, IsFirstUnfit, IsPlainFault}
-use Rattle.plain_lister.specs.Progress.{cells_of}
 use Rattle.mixedcells.specs.declared.outcome.Outcome.TheVariants as variant
 use Rattle.mixedcells.specs.Outcomes.{overflow_cell}
 use Rattle.mixedcells.specs.Answers.{IsListReply}

@@ -1,17 +1,15 @@
 -- In the quiet profile every working fits: no command says that a cell doesn't, a walk ends well, and a written listing passes.
-use Rattle.std.proofs.Common.{◌≡◌, ◌⊎◌, ◌≤◌, ◌<◌, ◌∙◌, ◌∷◌, [], ℕ, List, length, ℤ, pos, Option, None, Some, Ok, arith, refl, sym, ap, subst, inl, inr}
+use Rattle.std.proofs.Common.{◌≡◌, ◌⊎◌, ◌≤◌, ◌∙◌, ◌∷◌, [], ℕ, List, length, ℤ, pos, Option, None, Some, Ok, arith, refl, sym, ap, subst, inl, inr}
 use Rattle.int_vectors.specs.Vectors.{Each}
 use Rattle.reduced_rows.specs.Denominators.{shares}
 use Rattle.cayley.specs.Problems.{Problem, point_at}
 use Rattle.cayley.specs.Cells.{Cell, IsOf}
 use Rattle.cayley.specs.Files.{File, plain_problem}
 use Rattle.cayley.specs.Paths.{path, start_cell}
-use Rattle.cayley.specs.Lives.Begin.{at_time}
 use Rattle.cayley.specs.Mixed.{IsMixedCell, IsLowestNormal}
-use Rattle.cayley.specs.Parents.{InChain}
-use Rattle.cayley.specs.Parents.InChain.{here, up}
 use Rattle.cayley.specs.Valid.{IsValidFile}
-use Rattle.cayley.proofs.Searching.Strangers.{begun_of}
+use Rattle.cayley.proofs.OneCell.PlainProblems.{plain_valid}
+use Rattle.cayley.proofs.Searching.Chains.{chain_of}
 use Rattle.start_system.proofs.Started.SearchLaws.{path_law}
 use Rattle.inner_normal.specs.Workings.{denominator}
 use Rattle.inner_normal.proofs.Meaning.{reduced_of}
@@ -25,7 +23,6 @@ use Rattle.listing_text.specs.declared.listing.ListedCell.{ListedCell}
 use Rattle.listing_text.proofs.Formed.{meant_valid}
 use Rattle.cell_certificate.specs.Sums.{FitsRise, FitsOwn}
 use Rattle.cell_certificate.specs.Judgements.{FirstRefused}
-use Rattle.cell_certificate.proofs.PlainPoints.{valid_of}
 use Rattle.cell_certificate.proofs.Together.{pairs_map}
 use Rattle.cell_certificate.proofs.WorkedSums.{FitsOwnReduced, own_fits}
 use Rattle.cell_bound.specs.Quiet.{IsQuiet}
@@ -38,8 +35,10 @@ use Rattle.mixedcells.specs.declared.outcome.Outcome.TheVariants as variant
 use Rattle.mixedcells.specs.Words.{Means}
 use Rattle.mixedcells.specs.Outcomes.{status_of}
 use Rattle.mixedcells.specs.Walks.{TreeFits, IsReachedListing, IsReachedSum, IsWalkReply, IsTieReply}
-use Rattle.mixedcells.specs.Answers.{limit, IsListReply, IsFileReply, IsAloneReply, IsListingText, IsCheckReply, IsPowersReply, IsSystemReply, IsReply}
+use Rattle.mixedcells.specs.Answers.{limit, IsListReply, IsFileReply, IsAloneReply, IsListingText, IsCheckReply, IsPowersReply, IsMoveReply, IsSystemReply, IsReply}
 use Rattle.mixedcells.specs.Runs.{IsAnswer, IsCalledFor, IsFree, IsWrittenListing, IsSpared, Passes, Finishes}
+use Rattle.mixedcells.proofs.Checks.{read_of}
+use Rattle.mixedcells.proofs.MoveReplies.{not_a_problem}
 use Rattle.mixedcells.proofs.Exact.{answer_of, free_or, known}
 use Rattle.mixedcells.proofs.FileWorkings.{path_of, plain_fits, plain_own}
 use Rattle.mixedcells.proofs.Spared.{alive, well, long, level, same_file, spared_listing, spared}
@@ -47,18 +46,13 @@ use Rattle.mixedcells.proofs.Walking.{path_searched}
 use Rattle.mixedcells.proofs.AlongPaths.{said_of}
 
 -- ---- workings
-
 -- a cell of the path tree is one of the path
-in_chain_of : (p : Problem) (start cell : Cell) → IsOf p start → InChain p start cell → IsOf p cell
-in_chain_of p start cell of here = of
-in_chain_of p start cell of (up parent chain) = begun_of p cell (at_time parent.0.entries parent.0.over) (parent.0, refl, refl, parent.1)
-
 module _ (file : File) (valid : IsValidFile file) (quiet : IsQuiet file) where
   path_fits : (cell : Cell) → IsOf (path file) cell → FitsWorking (path file) cell
   path_fits cell of = small.quiet file valid quiet cell of
 
   pub tree_fits : TreeFits file
-  tree_fits cell t = path_fits cell (in_chain_of (path file) (start_cell (path file)) cell (path_searched file valid).of t.1)
+  tree_fits cell t = path_fits cell (chain_of (path file) (start_cell (path file)) cell (path_searched file valid).of t.1)
 
   all_path_fit : AllFit (path file)
   all_path_fit cell of = let w = path_fits cell of in (w.0, λ made e. (w.1 made e).0)
@@ -71,7 +65,7 @@ module _ (file : File) (valid : IsValidFile file) (quiet : IsQuiet file) where
   own_reduced cell of = λ made e.
       let p = plain_problem file in
       let lines : FitOwnLines p cell = plain_own file valid cell (subst (λ q. IsOf q cell) (sym (path_law file valid).2) of) (small.quiet_own file valid quiet cell (path_of file valid cell of)) in
-      subst (λ k. FitsOwn p cell (shares k 0 (denominator made) made) (pos (denominator made))) (reduced_of p cell (valid_of file valid).shape.problem of made ((all_plain_fit cell of).0, e)).count
+      subst (λ k. FitsOwn p cell (shares k 0 (denominator made) made) (pos (denominator made))) (reduced_of p cell (plain_valid file valid).shape.problem of made ((all_plain_fit cell of).0, e)).count
       (pairs_map p.supports cell (λ s a b. FitsWall (normal_of_rows made) (point_at s a) (point_at s b))
       (λ s a b. FitsRise (pos (denominator made)) (shares (length made) 0 (denominator made) made) (point_at s a) (point_at s b)) (lines made e) (λ s a b f. f.0))
 
@@ -119,12 +113,18 @@ module _ (bytes : List ℕ) (file : File) (means : problem_of bytes ≡ Ok file)
   walk_fits : (W : File → List ℕ → Type 0) (t : List ℕ) (cell : Cell) → IsFileReply (IsWalkReply W) bytes (variant.OverflowCell cell) t → ⊥
   walk_fits W t cell r = let h = said_of (IsWalkReply W) bytes file (variant.OverflowCell cell) t means r in h.1.1 (meant_tree_fits cell h.1.0)
 
+  -- a problem file is no move file
+  move_fits : (t : List ℕ) (cell : Cell) → IsMoveReply bytes (variant.OverflowCell cell) t → ⊥
+  move_fits t cell (inl h) = not_a_problem bytes file (read_of h.0, h.1) means h.2
+  move_fits t cell (inr h) = let e = ap status_of h.2.0 in omega (arith, e)
+
   reply_fits : (command : Command) (t : List ℕ) (cell : Cell) → IsReply command bytes (variant.OverflowCell cell) t → ⊥
   reply_fits verb.Plain t cell r = let h = said_of IsListReply bytes file (variant.OverflowCell cell) t means r in h.2.1 (all_plain_fit file valid_file quiet cell h.2.0)
   reply_fits (verb.List n) t cell r = alone_fits n IsReachedListing bytes t cell (walk_fits IsReachedListing t cell) r
   reply_fits (verb.Sum n) t cell r = alone_fits n IsReachedSum bytes t cell (walk_fits IsReachedSum t cell) r
   reply_fits verb.Check t cell r = check_fits bytes t cell r
   reply_fits verb.Generic t cell r = let h = said_of IsTieReply bytes file (variant.OverflowCell cell) t means r in h.3 (all_path_fit file valid_file quiet cell h.2.0.0)
+  reply_fits verb.Move t cell r = move_fits t cell r
   reply_fits verb.Powers t cell r = powers_fit bytes t cell r
   reply_fits (verb.Poly seed) t cell r = system_fits seed bytes t cell r
   reply_fits (verb.Make family seed) t cell r = let e = ap status_of r.0 in omega (arith, e)

@@ -1,6 +1,5 @@
 -- A reading gives one value or one fault.
 use Rattle.std.proofs.Common.{◌≡◌, Result, Ok, Err}
-use Rattle.std.specs.Prelude.{IfOk}
 
 pub ok_once : {A E : Type 0} (r : Result A E) (x y : A) → r ≡ Ok x → r ≡ Ok y → x ≡ y
 ok_once (Ok z) x y e f = cc
@@ -13,7 +12,3 @@ err_once (Err z) x y e f = cc
 pub not_both : {A E : Type 0} (r : Result A E) (x : A) (y : E) → r ≡ Ok x → r ≡ Err y → ⊥
 not_both (Ok z) x y e f = cc
 not_both (Err z) x y e f = cc
-
-pub if_ok_weaker : {A E : Type 0} (r : Result A E) (P Q : A → Type 0) → ((x : A) → P x → Q x) → IfOk r P → IfOk r Q
-if_ok_weaker (Ok x) P Q f h = f x h
-if_ok_weaker (Err e) P Q f h = tt

@@ -5,19 +5,18 @@ use Rattle.std.specs.List.{join_with_byte}
 use Rattle.std.proofs.lemmas.Int.{ints}
 use Rattle.std.proofs.lemmas.List.{length-map}
 use Rattle.wide_int.specs.Whole.{FitsWhole}
-use Rattle.int_vectors.specs.Vectors.{Each, at}
+use Rattle.int_vectors.specs.Vectors.{Each}
 use Rattle.cayley.specs.Times.{time_zero}
 use Rattle.cayley.specs.Problems.{Problem, IsProblem, point_at}
 use Rattle.cayley.specs.Cells.{Cell, IsOf, EachPair, IsFurther, IsSorted}
-use Rattle.cayley.specs.Normals.{Normal, IsNormal}
-use Rattle.cayley.specs.Mixed.{IsAlive, IsMixedCell, IsLowestNormal, HasFirstEntries}
+use Rattle.cayley.specs.Normals.{IsNormal}
+use Rattle.cayley.specs.Mixed.{IsAlive, IsMixedCell, IsLowestNormal}
 use Rattle.cayley.specs.Files.{File, FilePoint, resting, plain_problem}
 use Rattle.cayley.specs.Paths.{path}
 use Rattle.cayley.specs.Valid.{IsValidFile}
 use Rattle.cayley.specs.declared.found.FoundCell.{FoundCell}
-use Rattle.cayley.proofs.OneCell.CellNormals.{length-scale}
 use Rattle.cayley.proofs.Lists.Each.{map_map, each_unmap, each_weaker}
-use Rattle.cayley.proofs.OneCell.PlainProblems.{plain_of}
+use Rattle.cayley.proofs.OneCell.PlainProblems.{plain_of, plain_valid}
 use Rattle.cayley.proofs.OneCell.Unperturbed.{same_of}
 use Rattle.searcher.specs.Workings.{FitsWorking}
 use Rattle.support_text.specs.Words.{Text, text_of}
@@ -32,6 +31,7 @@ use Rattle.listing_text.specs.Listings.{AreMixedCells}
 use Rattle.listing_text.proofs.Formed.{meant_valid, plain_same, listing_formed}
 use Rattle.listing_text.proofs.ListingBack.{listing_back}
 use Rattle.reduced_rows.specs.Denominators.{shares}
+use Rattle.cayley.proofs.OneCell.LowestTerms.{long_first}
 use Rattle.inner_normal.specs.Workings.{denominator}
 use Rattle.inner_normal.proofs.Meaning.{reduced_of}
 use Rattle.cone_walls.specs.Numbers.{FitsWall}
@@ -45,7 +45,7 @@ use Rattle.cell_certificate.specs.Answers.{Answer, HadMemory}
 use Rattle.cell_certificate.specs.Written as written
 use Rattle.cell_certificate.specs.Written.{IsWritten, SparesWritten}
 use Rattle.cell_certificate.proofs.LowestLevel.{lowest_level}
-use Rattle.cell_certificate.proofs.PlainPoints.{valid_of, own_points}
+use Rattle.cell_certificate.proofs.PlainPoints.{own_points}
 use Rattle.cell_certificate.proofs.Together.{pairs_map}
 use Rattle.cell_certificate.proofs.WorkedSums.{entries_fit}
 use Rattle.cell_certificate.proofs.WrittenLines.{written_spared}
@@ -94,9 +94,6 @@ cell_of_file [] (p ∷ cell) h = absurd h
 cell_of_file (s ∷ supports) [] h = absurd h
 cell_of_file (s ∷ supports) (p ∷ cell) h = (h.0.0, h.0.1, subst (λ (k : ℕ). p.1 ≤ k) (length-map s resting) h.0.2, cell_of_file supports cell h.1)
 
-first_length : (w : Normal) (v : List ℤ) (den : ℤ) → HasFirstEntries w v den → length v ≡ length w.entries
-first_length w v den e = sym (length-scale w.over v) ∙ ap length e ∙ length-scale den (map (λ x. at x 0) w.entries) ∙ length-map w.entries (λ x. at x 0)
-
 each_contained : (P : Cell → Type 0) (cells : List Cell) → ((cell : Cell) → Contains cells cell → P cell) → Each cells P
 each_contained P [] f = tt
 each_contained P (x ∷ cells) f = (f x (0, omega arith, refl), each_contained P cells (λ cell c. f cell (suc c.0, omega (arith, c.1), c.2)))
@@ -110,7 +107,7 @@ module _ (file : File) (valid : IsValidFile file) where
   -- of a mixed cell and its normal in lowest terms
   module _ (cell : Cell) (v : List ℤ) (den : ℤ) (m : IsMixedCell (plain_problem file) cell) (n : IsLowestNormal (plain_problem file) cell v den) where
     pub well : IsProblem (plain_problem file)
-    well = (valid_of file valid).shape.problem
+    well = (plain_valid file valid).shape.problem
 
     pub alive : IsAlive (plain_problem file) cell time_zero
     alive = subst (λ q. IsAlive q cell time_zero) (own_points file valid) m
@@ -119,7 +116,7 @@ module _ (file : File) (valid : IsValidFile file) where
     normal = subst (λ q. IsNormal q cell time_zero n.2.0) (own_points file valid) n.2.1
 
     pub long : length v ≡ (plain_problem file).dimension
-    long = first_length n.2.0 v den n.2.2 ∙ normal.0
+    long = long_first n.2.0 v den n.2.2 ∙ normal.0
 
     pub level : IsLevelAt (plain_problem file) cell v den
     level = lowest_level (plain_problem file) cell alive.0 v den n.2.0 long n.0 normal n.2.2
@@ -151,7 +148,7 @@ module _ (file : File) (valid : IsValidFile file) where
   each_working [] m fit = tt
   each_working (x ∷ lines) m fit =
       let of = (subst (λ q. IsAlive q x.cell time_zero) (own_points file valid) m.0).0 in
-      (fits_working (plain_problem file) x.cell (valid_of file valid).shape.problem of fit.0, each_working lines m.1 fit.1)
+      (fits_working (plain_problem file) x.cell (plain_valid file valid).shape.problem of fit.0, each_working lines m.1 fit.1)
 
 -- ---- what a lister wrote
 

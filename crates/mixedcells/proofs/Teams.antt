@@ -1,20 +1,19 @@
 -- Commands for more than one searcher, which one alone leaves untouched.
-use Rattle.std.proofs.Common.{◌≡◌, ◌⊎◌, ◌∙◌, ℕ, List, [], Option, Some, None, Bool, true, false, not, nat_le, IsTrue, arith, refl, sym, ap, subst, inl, inr, append-nil}
+use Rattle.std.proofs.Common.{◌≡◌, ◌∙◌, ℕ, List, [], Option, Some, None, Bool, true, false, not, nat_le, IsTrue, arith, refl, sym, ap, subst, inl, inr, append-nil}
 use Rattle.std.specs.Io.KnownBytes.{Appends}
-use Rattle.edge_io.specs.Faults.{Rose}
 use Rattle.cayley.specs.Files.{File}
 use Rattle.mixedcells.specs.declared.words.Command.{Command}
 use Rattle.mixedcells.specs.declared.words.Command.TheVariants as verb
 use Rattle.mixedcells.specs.declared.outcome.Outcome.{Outcome}
 use Rattle.mixedcells.specs.declared.outcome.Outcome.TheVariants as variant
 use Rattle.mixedcells.specs.Words.{Means, HasMeaning, IsReading, IsForTeam, IsWalking, needs_team, reads}
-use Rattle.mixedcells.specs.Outcomes.{status_of, usage_line}
+use Rattle.mixedcells.specs.Outcomes.{status_of}
 use Rattle.mixedcells.specs.Walks.{IsReachedListing, IsReachedSum, IsWalkReply, IsTieReply}
-use Rattle.mixedcells.specs.Answers.{IsReply, IsFileReply, IsListReply, IsAloneReply, IsCheckReply, IsPowersReply, IsSystemReply}
-use Rattle.mixedcells.specs.Runs.{IsInput, IsAnswer, IsCalledFor, Finishes}
+use Rattle.mixedcells.specs.Answers.{IsReply, IsFileReply, IsListReply, IsAloneReply, IsCheckReply, IsPowersReply, IsMoveReply, IsSystemReply}
+use Rattle.mixedcells.specs.Runs.{IsAnswer, IsCalledFor, Finishes}
 use Rattle.mixedcells.proofs.CommandLine.Words.{one_meaning, team_of}
 
-unlike : {P : Type 0} (b : Bool) → b ≡ false → IsTrue b → P
+pub unlike : {P : Type 0} (b : Bool) → b ≡ false → IsTrue b → P
 unlike true e f = cc
 unlike false e f = cc
 
@@ -25,6 +24,7 @@ team_reply (verb.List n) bytes h = inr (h, refl, refl)
 team_reply (verb.Sum n) bytes h = inr (h, refl, refl)
 team_reply verb.Check bytes h = cc
 team_reply verb.Generic bytes h = cc
+team_reply verb.Move bytes h = cc
 team_reply verb.Powers bytes h = cc
 team_reply (verb.Poly seed) bytes h = cc
 team_reply (verb.Make family seed) bytes h = cc
@@ -35,6 +35,7 @@ team_unread (verb.List n) h = ap not h
 team_unread (verb.Sum n) h = ap not h
 team_unread verb.Check h = cc
 team_unread verb.Generic h = cc
+team_unread verb.Move h = cc
 team_unread verb.Powers h = cc
 team_unread (verb.Poly seed) h = cc
 team_unread (verb.Make family seed) h = cc
@@ -80,6 +81,10 @@ powers_alone : {P : Type 0} (bytes t : List ℕ) → IsPowersReply bytes variant
 powers_alone bytes t (inl h) = absurd h.2
 powers_alone bytes t (inr h) = absurd (let e = ap status_of h.2.0 in omega (arith, e))
 
+move_alone : {P : Type 0} (bytes t : List ℕ) → IsMoveReply bytes variant.NeedsTeam t → P
+move_alone bytes t (inl h) = absurd h.3
+move_alone bytes t (inr h) = absurd (let e = ap status_of h.2.0 in omega (arith, e))
+
 system_alone : {P : Type 0} (seed : ℕ) (bytes t : List ℕ) → IsSystemReply seed bytes variant.NeedsTeam t → P
 system_alone seed bytes t (inl h) = absurd (let e = ap status_of h.2 in omega (arith, e))
 system_alone seed bytes t (inr h) = absurd (let e = ap status_of h.2.0 in omega (arith, e))
@@ -90,6 +95,7 @@ replies_team (verb.List n) bytes t r = walk_team n IsReachedListing bytes t r
 replies_team (verb.Sum n) bytes t r = walk_team n IsReachedSum bytes t r
 replies_team verb.Check bytes t r = check_alone bytes t r
 replies_team verb.Generic bytes t r = file_alone IsTieReply bytes t (λ file k. k) r
+replies_team verb.Move bytes t r = move_alone bytes t r
 replies_team verb.Powers bytes t r = powers_alone bytes t r
 replies_team (verb.Poly seed) bytes t r = system_alone seed bytes t r
 replies_team (verb.Make family seed) bytes t r = absurd (let e = ap status_of r.0 in omega (arith, e))

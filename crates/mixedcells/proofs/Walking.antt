@@ -1,5 +1,5 @@
 -- What a search from the start branch of a path says of the path, and of its file.
-use Rattle.std.proofs.Common.{◌≡◌, ◌⊎◌, ◌≤◌, ◌<◌, ◌∙◌, ℕ, zero, suc, List, [], ◌∷◌, map, length, min, arith, refl, sym, ap, subst, inl, inr, Result, Ok, Err}
+use Rattle.std.proofs.Common.{◌≡◌, ◌≤◌, ◌∙◌, ℕ, List, [], ◌∷◌, map, refl, sym, subst, inl, inr, Result, Ok, Err}
 use Rattle.std.specs.Prelude.{Contains, IfOk, IfErr, MatchResult}
 use Rattle.int_vectors.specs.Vectors.{Each}
 use Rattle.cayley.specs.Times.{time_zero}
@@ -36,21 +36,9 @@ use Rattle.listing_text.specs.Listings.{AreMixedCells}
 use Rattle.cell_certificate.proofs.PlainPoints.{own_points}
 use Rattle.mixedcells.specs.Walks.{IsSafe, AreReached, AreReachedCells}
 use Rattle.search_team.specs.PathSearches.{IsWalked, IsHalted}
+use Rattle.search_team.proofs.Starts.{only, first_in}
+use Rattle.search_team.proofs.Chained.{found_left}
 use Rattle.mixedcells.specs.Journeys.{HasWalked, HasCounted, HasHalted, IsPathCount}
-
--- ---- lists
-only : {X : Type 0} (x y : X) → Contains (x ∷ []) y → x ≡ y
-only x y (zero, l, e) = e
-only x y (suc i, l, e) = absurd (omega (arith, l))
-
-first_in : (P : Cell → Type 0) (cells : List Cell) → ((cell : Cell) → Contains cells cell → P cell) → 1 ≤ length cells → (x : Cell) × P x
-first_in P [] f l = absurd (omega (arith, l))
-first_in P (x ∷ cells) f l = (x, f x (0, omega arith, refl))
-
-found_left : (P : Branch → Type 0) (left : List Branch) (c : Cell) → Each left P → Contains (map (λ (b : Branch). b.cell) left) c → (b : Branch) × P b × (b.cell ≡ c)
-found_left P [] c h (i, l, e) = absurd (omega (arith, l))
-found_left P (x ∷ left) c h (zero, l, e) = (x, h.0, e)
-found_left P (x ∷ left) c h (suc i, l, e) = found_left P left c h.1 (i, omega (arith, l), e)
 
 -- ---- a search of a path
 abbrev start : Problem → Branch

@@ -1,5 +1,5 @@
 -- What a command answers on the bytes of its input, and what it writes for that.
-use Rattle.std.specs.Prelude.{◌≡◌, ◌⊎◌, ℕ, List, [], Ok, Err, IsTrue, false, nat_le}
+use Rattle.std.specs.Prelude.{◌≡◌, ◌⊎◌, ℕ, ℤ, List, [], Ok, Err, IsTrue, false, nat_le}
 use Rattle.cayley.specs.Files.{File, plain_problem}
 use Rattle.support_text.specs.declared.fault.FormatFault.{FormatFault}
 use Rattle.support_text.specs.ProblemText.{problem_of}
@@ -11,6 +11,7 @@ use Rattle.cell_certificate.specs.Answers.{IsRight, IsWrong, IsTooLarge}
 use Rattle.poly_text.specs.SystemText.{PointSystem, system_of}
 use Rattle.homotopy_rows.specs.Answers.{IsPowersText}
 use Rattle.homotopy_rows.specs.Flat.{FirstFlat}
+use Rattle.lift_move.specs.MoveText.{move_of}
 use Rattle.plain_lister.specs.Choices.{HasTooMany, IsExcess}
 use Rattle.plain_lister.specs.Lists.{AllFit, IsFirstUnfit}
 use Rattle.mixedcells.specs.declared.words.meaning.Family.{Family}
@@ -20,6 +21,7 @@ use Rattle.mixedcells.specs.declared.outcome.Outcome.{Outcome}
 use Rattle.mixedcells.specs.declared.outcome.Outcome.TheVariants as variant
 use Rattle.mixedcells.specs.Families.{family_file, lifted_text}
 use Rattle.mixedcells.specs.Walks.{IsReachedListing, IsReachedSum, IsWalkReply, IsTieReply}
+use Rattle.mixedcells.specs.Moving.{IsMovedReply}
 use Rattle.mixedcells.specs.Outcomes.{yes_line, format_line, no_line, overflow_line, too_many_line, overflow_cell}
 
 -- the longest input that is read
@@ -122,6 +124,16 @@ IsPowersReply bytes outcome text =
     ((listing : Listing) × IsListingText bytes listing × IsRowsReply listing outcome text)
     ⊎ ((fault : FormatFault) × (listing_of bytes ≡ Err fault) × TellsFault fault outcome text)
 
+-- the bytes mean this listing and these second heights
+abbrev pub IsMoveText : List ℕ → Listing → List (List ℤ) → Type 0
+IsMoveText bytes listing second = move_of bytes ≡ Ok ((listing.file, listing.cells.items), second)
+
+-- what `move` replies: what is said of the listing and the second heights that the bytes mean, or their first fault
+abbrev pub IsMoveReply : List ℕ → Outcome → List ℕ → Type 0
+IsMoveReply bytes outcome text =
+    ((listing : Listing) × (second : List (List ℤ)) × IsMoveText bytes listing second × IsMovedReply listing second outcome text)
+    ⊎ ((fault : FormatFault) × (move_of bytes ≡ Err fault) × TellsFault fault outcome text)
+
 -- what `poly` replies: the canonical text of the file that lifts the system which the bytes mean, or their first fault
 abbrev pub IsSystemReply : ℕ → List ℕ → Outcome → List ℕ → Type 0
 IsSystemReply seed bytes outcome text =
@@ -138,6 +150,7 @@ IsReply verb.Plain bytes outcome text = IsPlainReply bytes outcome text
 IsReply (verb.List searchers) bytes outcome text = IsAloneReply searchers IsReachedListing bytes outcome text
 IsReply (verb.Sum searchers) bytes outcome text = IsAloneReply searchers IsReachedSum bytes outcome text
 IsReply verb.Generic bytes outcome text = IsGenericReply bytes outcome text
+IsReply verb.Move bytes outcome text = IsMoveReply bytes outcome text
 IsReply verb.Check bytes outcome text = IsCheckReply bytes outcome text
 IsReply verb.Powers bytes outcome text = IsPowersReply bytes outcome text
 IsReply (verb.Poly seed) bytes outcome text = IsSystemReply seed bytes outcome text

@@ -1,5 +1,5 @@
 -- What is asked of several searchers.
-use Rattle.std.specs.Prelude.{◌≡◌, ◌⊎◌, ◌≤◌, ℕ, List, [], ◌∷◌, codes, nat_le, IsTrue, if◌then◌else◌, Option, Some}
+use Rattle.std.specs.Prelude.{◌⊎◌, ℕ, List, [], ◌∷◌, codes, nat_le, if◌then◌else◌, Option, Some}
 use Rattle.clap.specs.Walk.{Text}
 use Rattle.mixedcells.specs.declared.words.Command.{Command}
 use Rattle.mixedcells.specs.declared.words.Command.TheVariants as verb
@@ -12,6 +12,7 @@ by_one (verb.List searchers) = verb.List 1
 by_one (verb.Sum searchers) = verb.Sum 1
 by_one verb.Check = verb.Check
 by_one verb.Generic = verb.Generic
+by_one verb.Move = verb.Move
 by_one verb.Powers = verb.Powers
 by_one (verb.Poly seed) = verb.Poly seed
 by_one (verb.Make family seed) = verb.Make family seed
@@ -23,6 +24,7 @@ searchers_of (verb.List searchers) = searchers
 searchers_of (verb.Sum searchers) = searchers
 searchers_of verb.Check = 1
 searchers_of verb.Generic = 1
+searchers_of verb.Move = 1
 searchers_of verb.Powers = 1
 searchers_of (verb.Poly seed) = 1
 searchers_of (verb.Make family seed) = 1

@@ -32,6 +32,7 @@ IsFit (verb.List searchers) = Unit {0}
 IsFit (verb.Sum searchers) = Unit {0}
 IsFit verb.Check = Unit {0}
 IsFit verb.Generic = Unit {0}
+IsFit verb.Move = Unit {0}
 IsFit verb.Powers = Unit {0}
 IsFit (verb.Poly seed) = Unit {0}
 IsFit (verb.Make family seed) = IsInLimits family

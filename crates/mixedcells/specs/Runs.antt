@@ -51,7 +51,7 @@ IsCutOff IsRight old new before now = Rose before now
 abbrev pub IsFree : Outcome → Type 0
 IsFree outcome = (outcome ≡ variant.ReadFault) ⊎ (outcome ≡ variant.WriteFault) ⊎ (outcome ≡ variant.OutOfMemory)
 
--- how a walk along a path ends: with its list, or at a tie or a cell that doesn't fit
+-- how a walk along a path, or a move, ends: with its list, or at a tie or a cell that doesn't fit
 abbrev pub IsWalkEnd : Outcome → Type 0
 IsWalkEnd outcome = (outcome ≡ variant.Ok) ⊎ ((proof : TieProof) × (outcome ≡ variant.Tie proof)) ⊎ ((cell : Cell) × (outcome ≡ variant.OverflowCell cell))
 
@@ -59,9 +59,10 @@ IsWalkEnd outcome = (outcome ≡ variant.Ok) ⊎ ((proof : TieProof) × (outcome
 abbrev pub AreTiesOfOne : Outcome → Outcome → Type 0
 AreTiesOfOne outcome other = (proof : TieProof) × (second : TieProof) × (outcome ≡ variant.Tie proof) × (other ≡ variant.Tie second) × (proof.cell ≡ second.cell)
 
--- of these the words and the bytes don't tell which one comes: the ends of a walk, and of `generic` the tie that is named for one cell, however its time is written
+-- of these the words and the bytes don't tell which one comes: the ends of a walk or of a move, and of `generic` the tie that is named for one cell, however its time is written
 abbrev pub AreLoose : List (List ℕ) → Outcome → Outcome → Type 0
 AreLoose words outcome other = (IsWalking words × IsWalkEnd outcome × IsWalkEnd other) ⊎ (Means words verb.Generic × AreTiesOfOne outcome other)
+    ⊎ (Means words verb.Move × IsWalkEnd outcome × IsWalkEnd other)
 
 -- the outcome came and its text was written, or the sink failed and a part of the text was
 abbrev pub Finishes : Option (List ℕ) → Option (List ℕ) → ℕ → ℕ → List ℕ → Outcome → Outcome → Type 0

@@ -132,6 +132,7 @@ meaning_after w ws =
     else if bytes_eq w (codes "check") then alone meaning.Check ws
     else if bytes_eq w (codes "powers") then alone meaning.Powers ws
     else if bytes_eq w (codes "generic") then alone meaning.Generic ws
+    else if bytes_eq w (codes "move") then alone meaning.Move ws
     else if bytes_eq w (codes "poly") then option_map meaning.Poly (system_seed ws)
     else if bytes_eq w (codes "list") then option_map meaning.List (searchers ws)
     else if bytes_eq w (codes "sum") then option_map meaning.Sum (searchers ws)
@@ -152,6 +153,7 @@ built (meaning.List searchers) = Some (verb.List searchers)
 built (meaning.Sum searchers) = Some (verb.Sum searchers)
 built meaning.Check = Some verb.Check
 built meaning.Generic = Some verb.Generic
+built meaning.Move = Some verb.Move
 built meaning.Powers = Some verb.Powers
 built (meaning.Poly seed) = Some (verb.Poly seed)
 built (meaning.Make family seed) = Some (verb.Make family seed)
@@ -173,6 +175,7 @@ needs_team (verb.List searchers) = nat_le 2 searchers
 needs_team (verb.Sum searchers) = nat_le 2 searchers
 needs_team verb.Check = false
 needs_team verb.Generic = false
+needs_team verb.Move = false
 needs_team verb.Powers = false
 needs_team (verb.Poly seed) = false
 needs_team (verb.Make family seed) = false
@@ -184,6 +187,7 @@ reads (verb.List searchers) = not (nat_le 2 searchers)
 reads (verb.Sum searchers) = not (nat_le 2 searchers)
 reads verb.Check = true
 reads verb.Generic = true
+reads verb.Move = true
 reads verb.Powers = true
 reads (verb.Poly seed) = true
 reads (verb.Make family seed) = false
@@ -221,6 +225,7 @@ meaning_read r =
     else if bytes_eq r.name (codes "check") then Some meaning.Check
     else if bytes_eq r.name (codes "powers") then Some meaning.Powers
     else if bytes_eq r.name (codes "generic") then Some meaning.Generic
+    else if bytes_eq r.name (codes "move") then Some meaning.Move
     else if bytes_eq r.name (codes "poly") then option_map meaning.Poly (seed_read r.seed)
     else if bytes_eq r.name (codes "list") then option_map meaning.List (searchers_read r.searchers)
     else if bytes_eq r.name (codes "sum") then option_map meaning.Sum (searchers_read r.searchers)

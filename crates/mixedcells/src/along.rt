@@ -41,8 +41,8 @@ fn unfit(alloc: Global, cell: Cell) -> Result<Reply, OutOfMemory>
     })
 }
 
-// The reply to the cause for which a walk halted.
-fn halted(alloc: Global, cause: HaltCause) -> Result<Reply, OutOfMemory>
+/// The reply to the cause for which a walk halted.
+pub fn halted(alloc: Global, cause: HaltCause) -> Result<Reply, OutOfMemory>
     ensures { IfOk result (λ r. TellsCause cause r.outcome r.text.items) }
 {
     match cause {

@@ -4,6 +4,7 @@
 mod along;
 mod lines;
 mod many;
+mod moves;
 mod outcome;
 mod replies;
 mod systems;
@@ -20,7 +21,11 @@ pub use words::{Command, Family};
 #[cfg(test)]
 mod along_tests;
 #[cfg(test)]
+mod ends_tests;
+#[cfg(test)]
 mod many_tests;
+#[cfg(test)]
+mod move_tests;
 #[cfg(test)]
 mod system_tests;
 #[cfg(test)]

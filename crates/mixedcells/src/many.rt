@@ -1,5 +1,5 @@
 // The top call for every number of searchers.
-ghost use Rattle.std.specs.Prelude.{◌≡◌, ◌≢◌, ◌⊎◌, ◌↔◌, ◌≤◌, List, ℕ, Some, Ok, IsTrue, IfOk, MatchResult, map, length, string_bytes};
+ghost use Rattle.std.specs.Prelude.{◌≡◌, ◌≢◌, ◌⊎◌, ◌↔◌, ◌≤◌, List, ℕ, ℤ, Some, Ok, IsTrue, IfOk, MatchResult, map, length, string_bytes};
 ghost use Rattle.std.specs.Io.KnownBytes.{Appends, IsAtEnd};
 ghost use Rattle.edge_io.specs.Faults.{Rose};
 ghost use Rattle.cayley.specs.Cells.{Cell};
@@ -22,8 +22,9 @@ ghost use Rattle.mixedcells.specs.Words.{Means, HasMeaning, IsReading, IsForTeam
 ghost use Rattle.mixedcells.specs.ByMany as by;
 ghost use Rattle.mixedcells.specs.ByMany.{by_one, searchers_of, for_one, IsJourney};
 ghost use Rattle.mixedcells.specs.Families.{family_file, lifted_text};
-ghost use Rattle.mixedcells.specs.Answers.{IsListingText, IsReply};
+ghost use Rattle.mixedcells.specs.Answers.{IsListingText, IsMoveText, IsReply};
 ghost use Rattle.mixedcells.specs.Walks.{IsReachedListing, IsReachedSum, IsSumOf, IsSafe, TreeFits, IsTreeTie, IsTreeUnfit};
+ghost use Rattle.mixedcells.specs.Moving.{target_of, IsMovedListing, IsMoveTie, IsMoveUnfit, IsFull, IsGenericMove, MoveFits};
 ghost use Rattle.mixedcells.specs.Runs.{AreLoose, IsInput, IsAnswer, IsCalledFor, IsCutOff, IsFree, IsVerdict, IsWrittenListing, IsSpared, Passes, TakesNoMore};
 
 use crate::outcome::Outcome;
@@ -38,7 +39,8 @@ use std::thread::Threads;
 use wide_int::OutOfMemory;
 
 /// Runs the command that the words mean on all that `source` has left, by as many searchers as they ask for,
-/// and writes its answer to `sink`. Each searcher passes the gate before each of its expansions.
+/// and writes its answer to `sink`. Where they are two or more, each passes `gate` before each of its expansions;
+/// one alone passes none.
 ///
 /// Its answers are those of [`run_alone`](crate::run_alone) to the words for one searcher.
 pub fn run<S: Source, K: Sink, G: Gate, R: Threads + Wait + Sync>(
@@ -57,7 +59,7 @@ pub fn run<S: Source, K: Sink, G: Gate, R: Threads + Wait + Sync>(
     ensures cut_off { result ≡ Outcome.WriteFault
         → IsCutOff (IsCalledFor (for_one (map string_bytes words.now)) (S.left source.old)) (K.held sink.old) (K.held sink.new) (K.faults sink.old) (K.faults sink.new) }
     ensures silent { (result ≡ Outcome.ReadFault) ⊎ (result ≡ Outcome.OutOfMemory) → sink.new ≡ sink.old }
-    // What is called for comes, unless an end fails or there is no memory; of the ends of a walk another one may come.
+    // What is called for comes, unless an end fails or there is no memory; of the ends of a walk or a move another one may come.
     ensures exact { (bytes : List ℕ) (outcome : Outcome) (text : List ℕ) → S.left source.old ≡ Some bytes
         → IsCalledFor (for_one (map string_bytes words.now)) (Some bytes) outcome text
         → (result ≡ outcome) ⊎ IsFree result ⊎ AreLoose (for_one (map string_bytes words.now)) result outcome }
@@ -120,6 +122,22 @@ pub fn run<S: Source, K: Sink, G: Gate, R: Threads + Wait + Sync>(
     // `powers` that ends Ok has written exactly the powers of each cell of the listing, whose lines all pass.
     ensures powers { (bytes : List ℕ) → S.left source.old ≡ Some bytes → Means (map string_bytes words.now) Command.Powers → result ≡ Outcome.Ok
         → (listing : Listing) × IsListingText bytes listing × IsRight listing × ((text : List ℕ) × IsPowersText listing text × Appends (K.held sink.old) (K.held sink.new) text) }
+    // `move` that ends Ok has written the text of the file with the second heights with mixed cells of it alone: those to which the listed cells lead, each once, in cell order, with their normals.
+    ensures moved { (bytes : List ℕ) → S.left source.old ≡ Some bytes → Means (map string_bytes words.now) Command.Move → result ≡ Outcome.Ok
+        → (listing : Listing) × (second : List (List ℤ)) × IsMoveText bytes listing second × IsRight listing
+        × ((text : List ℕ) × IsMovedListing listing second text × Appends (K.held sink.old) (K.held sink.new) text) }
+    // From a listing of all mixed cells of the first lift along a generic segment it is exactly the listing of the second file.
+    ensures moved_whole { (bytes : List ℕ) (listing : Listing) (second : List (List ℤ)) → S.left source.old ≡ Some bytes → Means (map string_bytes words.now) Command.Move
+        → IsMoveText bytes listing second → IsFull listing → IsGenericMove listing second → result ≡ Outcome.Ok
+        → (text : List ℕ) × IsListingOf (target_of listing second) text × Appends (K.held sink.old) (K.held sink.new) text }
+    // A move is refused for a tie on the way of a cell that comes of a listed one, and for such a cell that doesn't fit.
+    ensures move_tie { (bytes : List ℕ) (proof : TieProof) → S.left source.old ≡ Some bytes → Means (map string_bytes words.now) Command.Move → result ≡ Outcome.Tie proof
+        → (listing : Listing) × (second : List (List ℤ)) × IsMoveText bytes listing second × IsMoveTie listing second proof }
+    ensures move_unfit { (bytes : List ℕ) (cell : Cell) → S.left source.old ≡ Some bytes → Means (map string_bytes words.now) Command.Move → result ≡ Outcome.OverflowCell cell
+        → (listing : Listing) × (second : List (List ℤ)) × IsMoveText bytes listing second × IsMoveUnfit listing second cell }
+    // A listing whose lines all pass is moved along a generic segment where all workings fit.
+    ensures moves { (bytes : List ℕ) (listing : Listing) (second : List (List ℤ)) → S.left source.old ≡ Some bytes → length bytes ≤ 16777216 → Means (map string_bytes words.now) Command.Move
+        → IsMoveText bytes listing second → IsRight listing → IsGenericMove listing second → MoveFits listing second → (result ≡ Outcome.Ok) ⊎ IsFree result }
     // `poly` writes exactly the canonical text of the file that lifts the system which the bytes mean, or tells their first fault.
     ensures systems { (bytes : List ℕ) (seed : ℕ) → S.left source.old ≡ Some bytes → length bytes ≤ 16777216 → Means (map string_bytes words.now) (Command.Poly seed)
         → MatchResult (system_of bytes) (λ system. (result ≡ Outcome.Ok) × Appends (K.held sink.old) (K.held sink.new) (lifted_text seed system)) (λ fault. result ≡ Outcome.Format fault.line fault.kind) ⊎ IsFree result }

@@ -8,10 +8,10 @@ use std::sync::Wait;
 use std::test::Fail;
 use std::thread::Threads;
 
-const TWO_LEVEL: &[u8] = b"mixedcells 1\ndim 1\nsupport 2\n0 : 7\n1 : 7\nend\n";
+pub(crate) const TWO_LEVEL: &[u8] = b"mixedcells 1\ndim 1\nsupport 2\n0 : 7\n1 : 7\nend\n";
 
 // These words.
-fn words_of(alloc: Global, line: &str) -> Result<Vec<String>, Fail> {
+pub(crate) fn words_of(alloc: Global, line: &str) -> Result<Vec<String>, Fail> {
     let mut words = Vec::new(alloc);
     for word in line.split(' ') {
         words.push(String::from_str(alloc, word)?)?;

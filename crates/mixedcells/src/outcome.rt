@@ -8,7 +8,7 @@ use cayley::{Cell, TieProof};
 pub enum Outcome {
     /// The command did what it is for.
     Ok,
-    /// `check` and `powers`: this line of the listing is the first that doesn't pass, for this reason;
+    /// `check`, `powers` and `move`: this line of the listing is the first that doesn't pass, for this reason;
     /// `powers`, reason 6: all pass, and this is the first with a further point of the sum 0.
     No { line: u64, reason: u8 },
     /// The words mean no command; nothing was read.
@@ -17,13 +17,14 @@ pub enum Outcome {
     Format { line: u64, kind: u8 },
     /// Two further points of a cell are level at once, or one always is. `list` and `sum`: where the
     /// cell, which is of the path tree, begins or ends. `generic`: the tie that is named for the least
-    /// cell that has one.
+    /// cell that has one. `move`: where the cell, which comes of a listed one, ends, after time 0 and
+    /// at most at time 1.
     Tie(TieProof),
     /// The working of this cell has a number that doesn't fit. `plain`: the least choice of pairs with
     /// such a working. `generic`: the least cell that has a tie or doesn't fit. `list` and `sum`: a
-    /// cell of the path tree.
+    /// cell of the path tree. `move`: a cell that comes of a listed one, in the segment or at its end.
     OverflowCell { cell: Cell },
-    /// `check` and `powers`: judging this line needs a number that doesn't fit.
+    /// `check`, `powers` and `move`: judging this line needs a number that doesn't fit.
     OverflowLine { line: u64 },
     /// The source failed; nothing was written.
     ReadFault,

@@ -11,7 +11,7 @@ ghost use Rattle.mixedcells.specs.Families.{IsFit, IsInLimits};
 use crate::lines::{format_line, no_line, overflow_cell, overflow_line, too_many_line, yes_line};
 use crate::outcome::Outcome;
 use crate::words::{Command, Family};
-use crate::{along, systems};
+use crate::{along, moves, systems};
 use cayley::{LiftFile, Problem};
 use cell_certificate::{CheckFault, Verdict};
 use family_gen::{cyclic, scatter};
@@ -44,6 +44,7 @@ pub fn answer(alloc: Global, command: Command, bytes: &[u8]) -> Result<Reply, Ou
         Command::Sum(_) => sum(alloc, bytes),
         Command::Check => check(alloc, bytes),
         Command::Generic => generic(alloc, bytes),
+        Command::Move => moves::moved(alloc, bytes),
         Command::Powers => powers(alloc, bytes),
         Command::Poly(seed) => systems::poly(alloc, seed, bytes),
         Command::Make(family, seed) => made(alloc, family, seed),
@@ -150,8 +151,8 @@ fn check(alloc: Global, bytes: &[u8]) -> Result<Reply, OutOfMemory>
     }
 }
 
-// The reply on a listing.
-fn verdict(alloc: Global, listing: &Listing) -> Result<Reply, OutOfMemory>
+/// What `check` replies on a listing.
+pub fn verdict(alloc: Global, listing: &Listing) -> Result<Reply, OutOfMemory>
     requires { AreListed listing.now }
     ensures { IfOk result (λ r. IsVerdictReply listing.now r.outcome r.text.items) }
 {

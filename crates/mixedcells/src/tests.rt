@@ -6,7 +6,7 @@ use std::test::Fail;
 pub(crate) const THREE_POINTS: &[u8] =
     b"mixedcells 1\ndim 1\nsupport 3\n0 : 0\n1 : -2\n3 : 0\nend\n";
 
-const SEGMENT: &[u8] = b"mixedcells 1\ndim 1\nsupport 2\n0 : 0\n2 : 1\nend\n";
+pub(crate) const SEGMENT: &[u8] = b"mixedcells 1\ndim 1\nsupport 2\n0 : 0\n2 : 1\nend\n";
 
 pub(crate) const SQUARES: &[u8] =
     b"mixedcells 1\ndim 2\nsupport 4\n0 0 : 3\n1 0 : 10\n0 1 : 20\n1 1 : 90\nsupport 4\n0 0 : 5\n1 0 : 40\n0 1 : 9\n1 1 : 1\nend\n";

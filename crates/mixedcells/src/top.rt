@@ -1,5 +1,5 @@
 // The top call.
-ghost use Rattle.std.specs.Prelude.{◌≡◌, ◌≢◌, ◌⊎◌, ◌↔◌, ◌≤◌, [], List, ℕ, Option, Some, Ok, IsTrue, MatchResult, false, map, length, take, string_bytes};
+ghost use Rattle.std.specs.Prelude.{◌≡◌, ◌≢◌, ◌⊎◌, ◌↔◌, ◌≤◌, [], List, ℕ, ℤ, Option, Some, Ok, IsTrue, MatchResult, false, map, length, take, string_bytes};
 ghost use Rattle.std.specs.Io.KnownBytes.{Appends, Consumes, IsAtEnd};
 ghost use Rattle.edge_io.specs.Faults.{Rose};
 ghost use Rattle.edge_io.specs.Reading.{Stops};
@@ -21,8 +21,9 @@ ghost use Rattle.plain_lister.specs.Lists.{AllFit};
 ghost use Rattle.mixedcells.specs.declared.words.meaning.Family.{Family};
 ghost use Rattle.mixedcells.specs.Words.{Means, HasMeaning, IsReading, IsForTeam, IsWalking, needs_team, reads};
 ghost use Rattle.mixedcells.specs.Families.{IsFit, family_file, lifted_text};
-ghost use Rattle.mixedcells.specs.Answers.{IsListingText};
+ghost use Rattle.mixedcells.specs.Answers.{IsListingText, IsMoveText};
 ghost use Rattle.mixedcells.specs.Walks.{IsReachedListing, IsReachedSum, IsSumOf, IsSafe, TreeFits, IsTreeTie, IsTreeUnfit};
+ghost use Rattle.mixedcells.specs.Moving.{target_of, IsMovedListing, IsMoveTie, IsMoveUnfit, IsFull, IsGenericMove, MoveFits};
 ghost use Rattle.mixedcells.specs.Runs.{AreLoose, IsInput, IsAnswer, IsCalledFor, IsCutOff, IsFree, IsVerdict, IsWrittenListing, IsSpared, Passes, Finishes, TakesNoMore};
 
 use crate::outcome::Outcome;
@@ -49,7 +50,7 @@ pub fn run_alone<S: Source, K: Sink>(
     ensures cut_off { result ≡ Outcome.WriteFault
         → IsCutOff (IsCalledFor (map string_bytes words.now) (S.left source.old)) (K.held sink.old) (K.held sink.new) (K.faults sink.old) (K.faults sink.new) }
     ensures silent { (result ≡ Outcome.ReadFault) ⊎ (result ≡ Outcome.OutOfMemory) → sink.new ≡ sink.old }
-    // What is called for comes, unless an end fails or there is no memory; of the ends of a walk another one may come.
+    // What is called for comes, unless an end fails or there is no memory; of the ends of a walk or a move another one may come.
     ensures exact { (bytes : List ℕ) (outcome : Outcome) (text : List ℕ) → S.left source.old ≡ Some bytes
         → IsCalledFor (map string_bytes words.now) (Some bytes) outcome text
         → (result ≡ outcome) ⊎ IsFree result ⊎ AreLoose (map string_bytes words.now) result outcome }
@@ -118,6 +119,22 @@ pub fn run_alone<S: Source, K: Sink>(
     // `powers` that ends Ok has written exactly the powers of each cell of the listing, whose lines all pass.
     ensures powers { (bytes : List ℕ) → S.left source.old ≡ Some bytes → Means (map string_bytes words.now) Command.Powers → result ≡ Outcome.Ok
         → (listing : Listing) × IsListingText bytes listing × IsRight listing × ((text : List ℕ) × IsPowersText listing text × Appends (K.held sink.old) (K.held sink.new) text) }
+    // `move` that ends Ok has written the text of the file with the second heights with mixed cells of it alone: those to which the listed cells lead, each once, in cell order, with their normals.
+    ensures moved { (bytes : List ℕ) → S.left source.old ≡ Some bytes → Means (map string_bytes words.now) Command.Move → result ≡ Outcome.Ok
+        → (listing : Listing) × (second : List (List ℤ)) × IsMoveText bytes listing second × IsRight listing
+        × ((text : List ℕ) × IsMovedListing listing second text × Appends (K.held sink.old) (K.held sink.new) text) }
+    // From a listing of all mixed cells of the first lift along a generic segment it is exactly the listing of the second file.
+    ensures moved_whole { (bytes : List ℕ) (listing : Listing) (second : List (List ℤ)) → S.left source.old ≡ Some bytes → Means (map string_bytes words.now) Command.Move
+        → IsMoveText bytes listing second → IsFull listing → IsGenericMove listing second → result ≡ Outcome.Ok
+        → (text : List ℕ) × IsListingOf (target_of listing second) text × Appends (K.held sink.old) (K.held sink.new) text }
+    // A move is refused for a tie on the way of a cell that comes of a listed one, and for such a cell that doesn't fit.
+    ensures move_tie { (bytes : List ℕ) (proof : TieProof) → S.left source.old ≡ Some bytes → Means (map string_bytes words.now) Command.Move → result ≡ Outcome.Tie proof
+        → (listing : Listing) × (second : List (List ℤ)) × IsMoveText bytes listing second × IsMoveTie listing second proof }
+    ensures move_unfit { (bytes : List ℕ) (cell : Cell) → S.left source.old ≡ Some bytes → Means (map string_bytes words.now) Command.Move → result ≡ Outcome.OverflowCell cell
+        → (listing : Listing) × (second : List (List ℤ)) × IsMoveText bytes listing second × IsMoveUnfit listing second cell }
+    // A listing whose lines all pass is moved along a generic segment where all workings fit.
+    ensures moves { (bytes : List ℕ) (listing : Listing) (second : List (List ℤ)) → S.left source.old ≡ Some bytes → length bytes ≤ 16777216 → Means (map string_bytes words.now) Command.Move
+        → IsMoveText bytes listing second → IsRight listing → IsGenericMove listing second → MoveFits listing second → (result ≡ Outcome.Ok) ⊎ IsFree result }
     // `poly` writes exactly the canonical text of the file that lifts the system which the bytes mean, or tells their first fault.
     ensures systems { (bytes : List ℕ) (seed : ℕ) → S.left source.old ≡ Some bytes → length bytes ≤ 16777216 → Means (map string_bytes words.now) (Command.Poly seed)
         → MatchResult (system_of bytes) (λ system. (result ≡ Outcome.Ok) × Appends (K.held sink.old) (K.held sink.new) (lifted_text seed system)) (λ fault. result ≡ Outcome.Format fault.line fault.kind) ⊎ IsFree result }

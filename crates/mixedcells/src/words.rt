@@ -32,6 +32,8 @@ pub enum Command {
     Check,
     /// `generic`: tell whether the path of a problem file has a tie.
     Generic,
+    /// `move`: carry a listing to a second lift of the same points, along the straight path between the two.
+    Move,
     /// `powers`: write the powers of each cell of a listing that is judged right.
     Powers,
     /// `poly`: write the problem file of a system of polynomials with the heights behind this seed.
@@ -41,7 +43,8 @@ pub enum Command {
 }
 
 impl Command {
-    /// Whether the command reads its input; for more than one searcher it doesn't.
+    /// Whether `run_alone` reads its input for this command. One for several searchers it hands back unread; `run` reads as
+    /// for [`by_one`](Command::by_one) of it.
     pub fn reads(self) -> bool
         ensures { result ≡ spec.reads self }
     {
@@ -50,6 +53,7 @@ impl Command {
             Command::List(searchers) | Command::Sum(searchers) => !(2 <= searchers),
             Command::Check => true,
             Command::Generic => true,
+            Command::Move => true,
             Command::Powers => true,
             Command::Poly(_) => true,
             Command::Make(_, _) => false,
@@ -88,6 +92,7 @@ fn built(meaning: Meaning) -> Option<Command>
         Meaning::Sum(searchers) => Some(Command::Sum(searchers)),
         Meaning::Check => Some(Command::Check),
         Meaning::Generic => Some(Command::Generic),
+        Meaning::Move => Some(Command::Move),
         Meaning::Powers => Some(Command::Powers),
         Meaning::Poly(seed) => Some(Command::Poly(seed)),
         Meaning::Make(family, seed) => Some(Command::Make(family, seed)),

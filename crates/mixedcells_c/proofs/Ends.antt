@@ -1,22 +1,27 @@
 -- What follows from how a call ended.
 use Rattle.std.proofs.Common.{◌≡◌, ◌≢◌, ◌⊎◌, ◌∙◌, ◌<◌, ◌≤◌, ℕ, List, [], ◌++◌, length, Some, Ok, sym, ap, subst, inl, inr, ⊎_elim, arith}
+use Rattle.std.specs.Prelude.{MatchResult}
+use Rattle.std.proofs.lemmas.Result.{MatchResult-weaker}
 use Rattle.cayley.specs.Cells.{Cell}
 use Rattle.cayley.specs.declared.found.TieProof.{TieProof}
 use Rattle.cayley.specs.Files.{File}
 use Rattle.support_text.specs.ProblemText.{problem_of}
 use Rattle.cell_certificate.specs.Answers.{IsTooLarge}
 use Rattle.mixedcells.specs.declared.words.Command.TheVariants as verb
+use Rattle.support_text.specs.declared.fault.FormatFault.{FormatFault}
+use Rattle.poly_text.specs.SystemText.{PointSystem, system_of}
 use Rattle.listing_text.specs.declared.listing.Listing.{Listing}
 use Rattle.mixedcells.specs.declared.outcome.Outcome.{Outcome}
 use Rattle.mixedcells.specs.declared.outcome.Outcome.TheVariants as variant
 use Rattle.mixedcells.specs.Words.{Means, IsForTeam, IsWalking}
 use Rattle.mixedcells.specs.Outcomes.{status_of}
+use Rattle.mixedcells.specs.Families.{lifted_text}
 use Rattle.mixedcells.specs.Answers.{limit, IsListingText}
 use Rattle.mixedcells.specs.Walks.{IsTreeTie, IsTreeUnfit}
-use Rattle.mixedcells.specs.Runs.{AreLoose, IsCalledFor, IsFree, IsSpared}
+use Rattle.mixedcells.specs.Runs.{AreLoose, IsCalledFor, IsFree, IsSpared, Passes}
 use Rattle.mixedcells_c.specs.Buffers.{Grown, IsWithheld, Stands, Holds, IsGiven, HasNoRoom, HasNoMemory}
 use Rattle.mixedcells_c.specs.Runs.{IsRun, IsEnd}
-use Rattle.mixedcells_c.proofs.Statuses.{ok_alone, tie_alone, read_fault_alone, write_fault_alone, no_memory_alone, team_alone, room_is_none}
+use Rattle.mixedcells_c.proofs.Statuses.{ok_alone, tie_alone, read_fault_alone, write_fault_alone, no_memory_alone, team_alone, overflow_alone, room_is_none}
 
 module _ {words : List (List ℕ)} {input old new : List ℕ} {needed status : ℕ} (end : IsEnd words input old new needed status) where
   by_way : {P : Type 0}
@@ -106,6 +111,34 @@ module _ {words : List (List ℕ)} {input old new : List ℕ} {needed status : �
   pub spared : ((outcome : Outcome) (text : List ℕ) → IsRun words input outcome text → IsSpared input outcome)
       → ((outcome : Outcome) × (status ≡ status_of outcome) × IsSpared input outcome) ⊎ IsWithheld status
   spared f = by_way (λ o t run at. inl (o, at.0, f o t run)) (λ o t run at. inr (inr at.0)) (λ at. inr (inl at.0))
+
+  -- where no cell is said not to fit, a line is
+  pub line_alone : status ≡ 5 → ((outcome : Outcome) (text : List ℕ) → IsRun words input outcome text → (cell : Cell) → outcome ≢ variant.OverflowCell cell)
+      → (line : ℕ) × Holds (IsCalledFor words (Some input) (variant.OverflowLine line)) old new needed
+  line_alone e no_cell =
+      let h = told 5 e (λ z. omega (arith, z)) (λ z. omega (arith, z)) in
+      ⊎_elim (λ c. absurd (no_cell h.0 h.1 h.2 c.0 c.1))
+      (λ l. (l.0, (h.1, subst (λ (o : Outcome). IsCalledFor words (Some input) o h.1) l.1 h.2.written, h.4))) (overflow_alone h.0 h.3)
+
+  pub passed : ((outcome : Outcome) (text : List ℕ) → IsRun words input outcome text → Passes input outcome)
+      → (status ≡ 0) ⊎ ((limit < length input) × (status ≡ 9)) ⊎ IsWithheld status
+  passed f = by_way
+      (λ o t run at. ⊎_elim (λ e. inl (at.0 ∙ ap status_of e)) (λ n. inr (inl (n.0, at.0 ∙ ap status_of n.1))) (f o t run))
+      (λ o t run at. inr (inr (inr at.0))) (λ at. inr (inr (inl at.0)))
+
+  -- the lifted system stands there, or the fault is told
+  abbrev pub IsSystemTold : ℕ → Type 0
+  IsSystemTold seed = MatchResult (system_of input) (λ system. (status ≡ 0) × Holds (λ text. text ≡ lifted_text seed system) old new needed)
+      (λ fault. (status ≡ 3) × Holds (IsCalledFor words (Some input) (variant.Format fault.line fault.kind)) old new needed)
+
+  pub system_told : (seed : ℕ) → ((outcome : Outcome) (text : List ℕ) → IsRun words input outcome text → MatchResult (system_of input)
+      (λ system. (outcome ≡ variant.Ok) × (text ≡ lifted_text seed system)) (λ fault. outcome ≡ variant.Format fault.line fault.kind))
+      → IsSystemTold seed ⊎ IsWithheld status
+  system_told seed f = by_way
+      (λ o t run at. inl (MatchResult-weaker (system_of input) (f o t run)
+      (λ (system : PointSystem) h. (at.0 ∙ ap status_of h.0, (t, h.1, at.1)))
+      (λ (fault : FormatFault) e. (at.0 ∙ ap status_of e, (t, subst (λ (x : Outcome). IsCalledFor words (Some input) x t) e run.written, at.1)))))
+      (λ o t run at. inr (inr at.0)) (λ at. inr (inl at.0))
 
 -- what was appended to an empty sink is what it holds
 pub here : (empty : Grown) (held items : List ℕ) → empty ≡ record { held = []; faults = 0 } → items ≡ held

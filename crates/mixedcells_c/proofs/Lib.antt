@@ -1,3 +1,3 @@
-pub mod Statuses
-pub mod Ends
-pub mod CommandWords
+mod Statuses
+mod Ends
+mod CommandWords

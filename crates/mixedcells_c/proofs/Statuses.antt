@@ -1,5 +1,6 @@
 -- Which outcome a status tells.
-use Rattle.std.proofs.Common.{◌≡◌, refl, arith}
+use Rattle.std.proofs.Common.{◌≡◌, ◌⊎◌, ℕ, refl, inl, inr, arith}
+use Rattle.cayley.specs.Cells.{Cell}
 use Rattle.cayley.specs.declared.found.TieProof.{TieProof}
 use Rattle.mixedcells.specs.declared.outcome.Outcome.{Outcome}
 use Rattle.mixedcells.specs.declared.outcome.Outcome.TheVariants as variant
@@ -30,6 +31,12 @@ no_memory_alone _ e = absurd (omega (arith, e))
 pub team_alone : (outcome : Outcome) → status_of outcome ≡ 11 → outcome ≡ variant.NeedsTeam
 team_alone variant.NeedsTeam e = refl
 team_alone _ e = absurd (omega (arith, e))
+
+-- a cell or a line is what doesn't fit
+pub overflow_alone : (outcome : Outcome) → status_of outcome ≡ 5 → ((cell : Cell) × (outcome ≡ variant.OverflowCell cell)) ⊎ ((line : ℕ) × (outcome ≡ variant.OverflowLine line))
+overflow_alone (variant.OverflowCell cell) e = inl (cell, refl)
+overflow_alone (variant.OverflowLine line) e = inr (line, refl)
+overflow_alone _ e = absurd (omega (arith, e))
 
 -- none has the number that tells of no room
 pub room_is_none : (outcome : Outcome) → status_of outcome ≡ 256 → ⊥

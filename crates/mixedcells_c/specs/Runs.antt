@@ -1,5 +1,5 @@
 -- What a run on bytes in memory says, and how it reaches the caller.
-use Rattle.std.specs.Prelude.{◌≡◌, ◌⊎◌, ◌↔◌, ◌≤◌, ℕ, List, [], length, Some, Ok}
+use Rattle.std.specs.Prelude.{◌≡◌, ◌≢◌, ◌⊎◌, ◌↔◌, ◌≤◌, ℕ, List, [], length, Some, Ok, MatchResult}
 use Rattle.cayley.specs.Cells.{Cell}
 use Rattle.cayley.specs.declared.found.TieProof.{TieProof}
 use Rattle.cayley.specs.Files.{File, plain_problem}
@@ -11,6 +11,8 @@ use Rattle.listing_text.specs.Listings.{IsListingOf}
 use Rattle.cell_certificate.specs.Answers.{IsRight, IsTooLarge}
 use Rattle.cell_certificate.specs.Written.{AreMixed}
 use Rattle.homotopy_rows.specs.Answers.{IsPowersText}
+use Rattle.cell_bound.specs.Quiet.{IsQuiet}
+use Rattle.poly_text.specs.SystemText.{system_of}
 use Rattle.plain_lister.specs.Choices.{HasTooMany}
 use Rattle.plain_lister.specs.Lists.{AllFit}
 use Rattle.mixedcells.specs.declared.words.meaning.Family.{Family}
@@ -18,10 +20,10 @@ use Rattle.mixedcells.specs.declared.words.Command.TheVariants as verb
 use Rattle.mixedcells.specs.declared.outcome.Outcome.{Outcome}
 use Rattle.mixedcells.specs.declared.outcome.Outcome.TheVariants as variant
 use Rattle.mixedcells.specs.Words.{Means, HasMeaning, IsForTeam, IsWalking}
-use Rattle.mixedcells.specs.Families.{family_file}
+use Rattle.mixedcells.specs.Families.{family_file, lifted_text}
 use Rattle.mixedcells.specs.Answers.{limit, IsListingText}
 use Rattle.mixedcells.specs.Walks.{IsReachedListing, IsReachedSum, IsSumOf, IsSafe, TreeFits, IsTreeTie, IsTreeUnfit}
-use Rattle.mixedcells.specs.Runs.{AreLoose, IsCalledFor, IsFree, IsVerdict, IsWrittenListing, IsSpared}
+use Rattle.mixedcells.specs.Runs.{AreLoose, IsCalledFor, IsFree, IsVerdict, IsWrittenListing, IsSpared, Passes}
 use Rattle.mixedcells_c.specs.Buffers.{IsGiven, HasNoRoom, HasNoMemory}
 
 -- what `run_alone` says where the words and the input are these, neither end fails, and it ends so and writes this
@@ -46,12 +48,17 @@ pub record IsRun (words : List (List ℕ)) (input : List ℕ) (outcome : Outcome
   pub overflow_cause : (cell : Cell) → IsWalking words → outcome ≡ variant.OverflowCell cell
       → (file : File) × (problem_of input ≡ Ok file) × IsTreeUnfit file cell
   pub walked : (file : File) → length input ≤ limit → IsWalking words → problem_of input ≡ Ok file → IsSafe file → TreeFits file → outcome ≡ variant.Ok
+  pub quiet : (file : File) → problem_of input ≡ Ok file → IsQuiet file → (cell : Cell) → outcome ≢ variant.OverflowCell cell
+  pub walked_quiet : (file : File) → length input ≤ limit → IsWalking words → problem_of input ≡ Ok file → IsSafe file → IsQuiet file → outcome ≡ variant.Ok
+  pub passes : (file : File) → Means words verb.Check → IsWrittenListing file input → IsQuiet file → Passes input outcome
   pub judged_ties : (file : File) → length input ≤ limit → Means words verb.Generic → problem_of input ≡ Ok file
       → ¬ (HasTooMany (path file)) → AllFit (path file) → (outcome ≡ variant.Ok) ⊎ ((proof : TieProof) × (outcome ≡ variant.Tie proof))
   pub tie_free : (file : File) → Means words verb.Generic → problem_of input ≡ Ok file → outcome ≡ variant.Ok → IsSafe file
   pub needs_team : (outcome ≡ variant.NeedsTeam) ↔ IsForTeam words
   pub silent : outcome ≡ variant.NeedsTeam → text ≡ []
   pub powers : Means words verb.Powers → outcome ≡ variant.Ok → (listing : Listing) × IsListingText input listing × IsRight listing × IsPowersText listing text
+  pub systems : (seed : ℕ) → length input ≤ limit → Means words (verb.Poly seed) → MatchResult (system_of input)
+      (λ system. (outcome ≡ variant.Ok) × (text ≡ lifted_text seed system)) (λ fault. outcome ≡ variant.Format fault.line fault.kind)
   pub made : (family : Family) (seed : ℕ) → Means words (verb.Make family seed) → outcome ≡ variant.Ok
   pub made_text : (family : Family) (seed : ℕ) → Means words (verb.Make family seed) → outcome ≡ variant.Ok → text ≡ problem_text (family_file family seed)
   pub usage : ¬ (HasMeaning words) → outcome ≡ variant.Usage

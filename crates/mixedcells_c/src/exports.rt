@@ -1,5 +1,5 @@
 // What C calls.
-ghost use Rattle.std.specs.Prelude.{◌≡◌, ◌≢◌, ◌⊎◌, ◌<◌, ◌≤◌, ℕ, List, [], length, Some, Ok};
+ghost use Rattle.std.specs.Prelude.{◌≡◌, ◌≢◌, ◌⊎◌, ◌<◌, ◌≤◌, ℕ, List, [], length, Some, Ok, MatchResult};
 ghost use Rattle.cayley.specs.Cells.{Cell};
 ghost use Rattle.cayley.specs.declared.found.TieProof.{TieProof};
 ghost use Rattle.cayley.specs.Files.{File, plain_problem};
@@ -11,6 +11,8 @@ ghost use Rattle.listing_text.specs.Listings.{IsListingOf};
 ghost use Rattle.cell_certificate.specs.Answers.{IsRight, IsTooLarge};
 ghost use Rattle.cell_certificate.specs.Written.{AreMixed};
 ghost use Rattle.homotopy_rows.specs.Answers.{IsPowersText};
+ghost use Rattle.cell_bound.specs.Quiet.{IsQuiet};
+ghost use Rattle.poly_text.specs.SystemText.{system_of};
 ghost use Rattle.plain_lister.specs.Choices.{HasTooMany};
 ghost use Rattle.plain_lister.specs.Lists.{AllFit};
 ghost use Rattle.mixedcells.specs.declared.words.meaning.Family.{Family};
@@ -18,7 +20,7 @@ ghost use Rattle.mixedcells.specs.declared.words.Command.TheVariants as verb;
 ghost use Rattle.mixedcells.specs.declared.outcome.Outcome.{Outcome};
 ghost use Rattle.mixedcells.specs.declared.outcome.Outcome.TheVariants as variant;
 ghost use Rattle.mixedcells.specs.Words.{Means, HasMeaning, IsForTeam, IsWalking};
-ghost use Rattle.mixedcells.specs.Families.{family_file};
+ghost use Rattle.mixedcells.specs.Families.{family_file, lifted_text};
 ghost use Rattle.mixedcells.specs.Outcomes.{status_of};
 ghost use Rattle.mixedcells.specs.Answers.{limit, IsListingText};
 ghost use Rattle.mixedcells.specs.Walks.{IsReachedListing, IsReachedSum, IsSumOf, IsSafe, TreeFits, IsTreeTie, IsTreeUnfit};
@@ -75,6 +77,15 @@ pub extern "C" fn mixedcells_run(
         × Holds (IsCalledFor (words_in command.now) (Some input.now) outcome) room.old room.new needed.new }
     ensures walked { (file : File) → length input.now ≤ limit → IsWalking (words_in command.now) → problem_of input.now ≡ Ok file
         → IsSafe file → TreeFits file → (result ≡ 0) ⊎ IsWithheld result }
+    // In the quiet profile no command says that a cell doesn't fit, in both versions: where a number doesn't, a line is named;
+    ensures quiet { (file : File) → problem_of input.now ≡ Ok file → IsQuiet file → result ≡ 5
+        → (line : ℕ) × Holds (IsCalledFor (words_in command.now) (Some input.now) (variant.OverflowLine line)) room.old room.new needed.new }
+    // a walk ends well there where the heights are perturbed or the path has no tie,
+    ensures walked_quiet { (file : File) → length input.now ≤ limit → IsWalking (words_in command.now) → problem_of input.now ≡ Ok file
+        → IsSafe file → IsQuiet file → (result ≡ 0) ⊎ IsWithheld result }
+    // and a written listing passes, if it isn't too long to be read.
+    ensures passes { (file : File) → Means (words_in command.now) verb.Check → IsWrittenListing file input.now → IsQuiet file
+        → (result ≡ 0) ⊎ ((limit < length input.now) × (result ≡ 9)) ⊎ IsWithheld result }
     // `list` and `sum` by several searchers are refused, with no answer.
     ensures needs_team { result ≡ 11 → IsForTeam (words_in command.now) }
     ensures for_team { IsForTeam (words_in command.now) → ((result ≡ 11) × (needed.new ≡ 0) × (room.new ≡ room.old)) ⊎ (result ≡ 8) }
@@ -103,6 +114,11 @@ pub extern "C" fn mixedcells_run(
     // `powers` that answers 0: the powers of each cell of the listing, whose lines all pass.
     ensures powers { Means (words_in command.now) verb.Powers → result ≡ 0 → (listing : Listing) × IsListingText input.now listing × IsRight listing
         × Holds (IsPowersText listing) room.old room.new needed.new }
+    // `poly` gives exactly the canonical text of the file that lifts the system which the input means, or tells its first fault.
+    ensures systems { (seed : ℕ) → length input.now ≤ limit → Means (words_in command.now) (verb.Poly seed)
+        → MatchResult (system_of input.now) (λ system. (result ≡ 0) × Holds (λ text. text ≡ lifted_text seed system) room.old room.new needed.new)
+        (λ fault. (result ≡ 3) × Holds (IsCalledFor (words_in command.now) (Some input.now) (variant.Format fault.line fault.kind)) room.old room.new needed.new)
+        ⊎ IsWithheld result }
     // `make` makes what it is asked for.
     ensures made { (family : Family) (seed : ℕ) → Means (words_in command.now) (verb.Make family seed) → (result ≡ 0) ⊎ IsWithheld result }
     ensures made_text { (family : Family) (seed : ℕ) → Means (words_in command.now) (verb.Make family seed) → result ≡ 0

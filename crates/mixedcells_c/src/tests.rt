@@ -9,7 +9,7 @@ const CELLS: &[u8] = b"cells 1\ncell 1 2 : -1 / 2\nend\n";
 fn answers_stand_in_front(rt: HostRuntime) -> Result<(), Fail> {
     let mut listing = SEGMENT.to_vec(rt.alloc())?;
     listing.extend_from_slice(CELLS)?;
-    let rows: [(&[u8], &[u8], u32, &[u8]); 8] = [
+    let rows: [(&[u8], &[u8], u32, &[u8]); 10] = [
         (b"list", SEGMENT, 0, &listing),
         (b"plain", SEGMENT, 0, &listing),
         (b"check", &listing, 0, b"yes\n"),
@@ -18,6 +18,18 @@ fn answers_stand_in_front(rt: HostRuntime) -> Result<(), Fail> {
             b"",
             0,
             b"mixedcells 1\ndim 1\nsupport 1\n0 : 7100271\nend\n",
+        ),
+        (
+            b"poly",
+            b"system 1\n(x1 + 1)*(x1 - 1) - x1^2\n",
+            0,
+            b"mixedcells 1\ndim 1\nsupport 1\n0 : 7100271\nend\n",
+        ),
+        (
+            b"poly",
+            b"system 1\nx1 - x1\n",
+            3,
+            b"format: line 2 kind 25\n",
         ),
         (b"list", b"", 3, b"format: line 1 kind 8\n"),
         (b"list --searchers 2", SEGMENT, 11, b""),

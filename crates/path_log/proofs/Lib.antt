@@ -1,4 +1,4 @@
-pub mod Spans
-pub mod Written
-pub mod LogBack
-pub mod LogForms
+mod Spans
+mod Written
+mod LogBack
+mod LogForms

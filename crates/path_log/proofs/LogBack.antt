@@ -7,6 +7,7 @@ use Rattle.cayley.specs.Files.{File, FilePoint}
 use Rattle.cayley.specs.Valid.{IsValidFile}
 use Rattle.cayley.specs.declared.found.FoundCell.{FoundCell}
 use Rattle.line_text.specs.Lines.{Row, lines_of, end_line_of}
+use Rattle.cayley.proofs.Lists.Each.{each_append}
 use Rattle.support_text.specs.declared.fault.Kind.TheVariants.{Count, Number, Range}
 use Rattle.support_text.specs.Faults.{series}
 use Rattle.support_text.specs.Words.{Text, words, word, nothing_more, next_line}
@@ -14,7 +15,7 @@ use Rattle.support_text.specs.ProblemText.{problem_at, no_line}
 use Rattle.support_text.specs.Writing.{problem_lines}
 use Rattle.support_text.proofs.Series.{Chain, ReadsEach, series_again}
 use Rattle.support_text.proofs.ReadBack.{AreLines, lines_are, lines_split, next_again, number_again, numbers_again, counting_again, file_again}
-use Rattle.support_text.proofs.WrittenWords.{IsWord, IsLine, plain_word, mark_word, number_word, lines_again, each-append, each-map}
+use Rattle.support_text.proofs.WrittenWords.{IsWord, IsLine, plain_word, mark_word, number_word, lines_again, each-map}
 use Rattle.support_text.proofs.FileTexts.{file_lines, valid_is_read, count_word}
 use Rattle.listing_text.specs.ListingText.{normal_entry, part_at, counts_of}
 use Rattle.listing_text.specs.Writing.{position_words, cells_lines}
@@ -94,7 +95,7 @@ node_is_line spans x small formed =
     let colon : IsWord (codes ":") = mark_word 58 refl refl in
     let scale = number_word x.scale (over_width (2 ^ 127 - 1) x.scale formed.scale.0 formed.scale.1 (lit< tt)) in
     let entries = each-map IsWord IsEntry signed_decimal (λ z p. number_word z (entry_width z p.0 p.1)) x.inverse formed.entries in
-    let body = each-append IsWord (position_words x.cell) (codes ":" ∷ signed_decimal x.scale ∷ codes ":" ∷ map signed_decimal x.inverse)
+    let body = each_append IsWord (position_words x.cell) (codes ":" ∷ signed_decimal x.scale ∷ codes ":" ∷ map signed_decimal x.inverse)
     (positions_are_words spans x.cell formed.cell small) (colon, (scale, (colon, entries))) in
     (omega arith, (head, body))
 
@@ -125,8 +126,8 @@ log_back file nodes found valid noted formed some few less =
     let more : file.dimension + 1 ≤ 17 = omega (arith, valid.shape.dimension.1) in
     let wide : Each spans (λ m. m < 2 ^ 127) = small_spans (file.dimension + 1) file.supports more valid.shape.counts in
     let small = small_counts file.supports valid.shape.counts in
-    let behind = each-append IsLine (nodes_lines nodes) (cells_lines found) (nodes_are_lines spans nodes wide noted few) (cells_are_lines counts found small formed less) in
-    let are = each-append IsLine (problem_lines file) (nodes_lines nodes ++ cells_lines found) (file_lines file valid) behind in
+    let behind = each_append IsLine (nodes_lines nodes) (cells_lines found) (nodes_are_lines spans nodes wide noted few) (cells_are_lines counts found small formed less) in
+    let are = each_append IsLine (problem_lines file) (nodes_lines nodes ++ cells_lines found) (file_lines file valid) behind in
     let same : map words rows ≡ log_lines file nodes found = lines_again (log_lines file nodes found) are in
     let lines : AreLines (log_lines file nodes found) rows [] = subst (λ (wss : List (List Text)). AreLines wss rows []) same (lines_are rows) in
     let parts = lines_split (problem_lines file) (nodes_lines nodes ++ cells_lines found) rows [] lines in

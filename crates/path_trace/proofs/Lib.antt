@@ -1,2 +1,2 @@
-pub mod Members
+mod Members
 pub mod Independence

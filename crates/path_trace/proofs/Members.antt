@@ -5,8 +5,8 @@ use Rattle.cayley.specs.Cells.{Cell}
 use Rattle.cayley.specs.Parents.{IsParent, InChain}
 use Rattle.cayley.specs.Parents.InChain.{here, up}
 use Rattle.cayley.proofs.Searching.Chains.{chain_trans}
-use Rattle.cayley.proofs.Searching.Listing.{Has}
-use Rattle.cayley.proofs.Searching.Members.{has_contains, contains_has, has_left, has_right, has_either}
+use Rattle.cayley.proofs.Searching.Listing.{Has, has-left, has-right}
+use Rattle.cayley.proofs.Searching.Members.{has_contains, contains_has, has_either}
 use Rattle.cayley.proofs.Searching.Shares.{list_has, has_list}
 use Rattle.path_trace.specs.Preorders.{ArePreorders, PreorderLaw}
 use Rattle.path_trace.specs.Preorders.ArePreorders.{none, next}
@@ -31,17 +31,17 @@ root_there : (p : Problem) (roots cells : List Cell) → ArePreorders p roots ce
 root_there p [] [] none root h = absurd h
 root_there p [] (c ∷ cells) are root h = elim are [ ]
 root_there p (first ∷ roots) _ (next {below = below} {after = after} list down on) root (inl e) = inl e
-root_there p (first ∷ roots) _ (next {below = below} {after = after} list down on) root (inr h) = inr (has_right root below after (root_there p roots after on root h))
+root_there p (first ∷ roots) _ (next {below = below} {after = after} list down on) root (inr h) = inr (has-right root below after (root_there p roots after on root h))
 
 -- and the children of each cell that is there
 kid_there : (p : Problem) (roots cells : List Cell) → ArePreorders p roots cells → (cell kid : Cell) → Has cell cells → IsParent p cell kid → Has kid cells
 kid_there p [] [] none cell kid h q = absurd h
 kid_there p [] (c ∷ cells) are cell kid h q = elim are [ ]
 kid_there p (root ∷ roots) _ (next {kids = kids} {below = below} {after = after} list down on) cell kid (inl e) q =
-    inr (has_left kid below after (root_there p kids below down kid (has_list (λ kid. IsParent p root kid) kids list kid (subst (λ c. IsParent p c kid) e q))))
+    inr (has-left kid below after (root_there p kids below down kid (has_list (λ kid. IsParent p root kid) kids list kid (subst (λ c. IsParent p c kid) e q))))
 kid_there p (root ∷ roots) _ (next {kids = kids} {below = below} {after = after} list down on) cell kid (inr h) q = elim (has_either cell below after h) [
-  | inl k ↦ inr (has_left kid below after (kid_there p kids below down cell kid k q))
-  | inr k ↦ inr (has_right kid below after (kid_there p roots after on cell kid k q))
+  | inl k ↦ inr (has-left kid below after (kid_there p kids below down cell kid k q))
+  | inr k ↦ inr (has-right kid below after (kid_there p roots after on cell kid k q))
 ]
 
 chain_there : (p : Problem) (roots cells : List Cell) → ArePreorders p roots cells → (root cell : Cell) → InChain p root cell → Has root cells → Has cell cells

@@ -3,13 +3,13 @@ use Rattle.std.specs.Prelude.{◌≡◌, ℕ, zero, suc, ◌*◌, ◌<◌, List,
 use Rattle.int_vectors.specs.Vectors.{sub, dot}
 use Rattle.cayley.specs.Problems.{Problem, IsProblem, point_at}
 use Rattle.cayley.specs.Cells.{Cell, IsOf, IsIndependent}
-use Rattle.cayley.specs.Dependencies.{support_at, pair_at}
+use Rattle.cayley.specs.Dependencies.{pair_at, nth_support}
 use Rattle.path_trace.specs.Matrices.{column}
 
 -- the second point of the pair at a place less the first; places count from 0
 abbrev pub pair_difference : Problem → Cell → ℕ → List ℤ
 pair_difference p cell i =
-    sub (point_at (support_at p.supports i) (pair_at cell i).1).coordinates (point_at (support_at p.supports i) (pair_at cell i).0).coordinates
+    sub (point_at (nth_support p.supports i) (pair_at cell i).1).coordinates (point_at (nth_support p.supports i) (pair_at cell i).0).coordinates
 
 -- the entry of g times the identity
 abbrev pub in_identity : ℤ → ℕ → ℕ → ℤ

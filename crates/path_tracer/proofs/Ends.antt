@@ -1,6 +1,6 @@
 -- what the walk has written down at its end, and what a halt tells
 use Rattle.std.proofs.Common.{◌≡◌, ℕ, ◌≤◌, List, [], ◌∷◌, ◌++◌, length, min, arith, refl, sym, subst, inl, inr, append-nil}
-use Rattle.std.specs.Prelude.{IsPermutation, Contains, Vec}
+use Rattle.std.specs.Prelude.{IsPermutation, Vec}
 use Rattle.std.specs.Global.{Global}
 use Rattle.int_vectors.specs.Vectors.{Each}
 use Rattle.cayley.specs.declared.found.FoundCell.{FoundCell}
@@ -14,6 +14,7 @@ use Rattle.cayley.specs.Ties.{IsTieFree}
 use Rattle.cayley.proofs.Searching.Members.{contains_has}
 use Rattle.cayley.proofs.Searching.Shares.{a_size}
 use Rattle.cayley.proofs.Searching.Steps.{size_some}
+use Rattle.cayley.specs.Stored.{cells_of}
 use Rattle.start_system.specs.Started.{start_branch, IsStarted, IsSearched, IsTreeSize}
 use Rattle.start_system.proofs.Started.SearchLaws.{started_law}
 use Rattle.searcher.specs.declared.branches.Branch.{Branch}
@@ -21,7 +22,7 @@ use Rattle.searcher.specs.declared.expansions.HaltCause.{HaltCause}
 use Rattle.searcher.specs.declared.expansions.HaltCause.TheVariants.{Tie, Overflow, OutOfMemory}
 use Rattle.searcher.specs.declared.searching.Found.{Found}
 use Rattle.searcher.specs.Expansions.{IsCause, HasLowestNormal, ShowsTieAtEnd, HasNoTie}
-use Rattle.searcher.specs.Searches.{CostOf, IsFound, IsLeft, NeverFalls, cells_of, top}
+use Rattle.searcher.specs.Searches.{CostOf, IsFound, IsLeft, NeverFalls, top}
 use Rattle.searcher.specs.Workings.{FitsWorking}
 use Rattle.searcher.proofs.Results.{all_found, each_sorted, finds_share, cost_of_one, cause_left}
 use Rattle.search_team.specs.Accounts.{IsBalance}
@@ -31,13 +32,10 @@ use Rattle.search_team.proofs.Chained.{cause_behind}
 use Rattle.path_trace.specs.declared.trace.Trace.{Trace}
 use Rattle.path_trace.specs.Preorders.{IsPreorder, cells_in}
 use Rattle.path_trace.specs.Preorders.ArePreorders.{none}
+use Rattle.search_team.proofs.Starts.{first_in}
 use Rattle.path_tracer.specs.Nodes.{HasInverse}
 use Rattle.path_tracer.specs.Traced.{IsTraced}
 use Rattle.path_tracer.proofs.Walks.{start_of, IsOnWay}
-
-first_in : (P : Cell → Type 0) (cells : List Cell) → ((cell : Cell) → Contains cells cell → P cell) → 1 ≤ length cells → (x : Cell) × P x
-first_in P [] f l = absurd (omega (arith, l))
-first_in P (x ∷ cells) f l = (x, f x (0, omega arith, refl))
 
 module _ (p : Problem) (valid : IsValidProblem p) (started : IsStarted p) where
   pub searched : IsSearched p

@@ -4,7 +4,7 @@ use native.Mathlib.Decide.{ℕ_discrete}
 use Rattle.reduced_rows.specs.CellRefusals.{FitsBeyond}
 use Rattle.cayley.specs.Problems.{Point, Problem, EachSupport}
 use Rattle.cayley.specs.Cells.{Cell, IsIndependent}
-use Rattle.cayley.specs.Dependencies.{support_at, pair_at}
+use Rattle.cayley.specs.Dependencies.{pair_at, nth_support}
 use Rattle.cayley.specs.Lives.{Begin, BeginsAs}
 use Rattle.cayley.specs.Lives.Begin.{at_start, at_time}
 use Rattle.cayley.specs.Rows.{edge_rows}
@@ -37,7 +37,7 @@ third a b = elim (ℕ_discrete 1 a) [
   ]
 ]
 
-first_long : (n i : ℕ) (files : List ℕ) (supports : List (List Point)) → EachSupport i files supports (λ i f s. (1 ≤ f) × (length s ≡ f + suc n)) → 1 ≤ n → 1 ≤ length supports → 3 ≤ length (support_at supports 0)
+first_long : (n i : ℕ) (files : List ℕ) (supports : List (List Point)) → EachSupport i files supports (λ i f s. (1 ≤ f) × (length s ≡ f + suc n)) → 1 ≤ n → 1 ≤ length supports → 3 ≤ length (nth_support supports 0)
 first_long n i [] [] h l k = absurd (omega (arith, k))
 first_long n i [] (s ∷ supports) h l k = absurd h
 first_long n i (f ∷ files) [] h l k = absurd h

@@ -1,41 +1,32 @@
 -- what the columns of the elimination are, as a matrix
-use Rattle.std.proofs.Common.{◌≡◌, ℕ, zero, suc, ◌+◌, ◌<◌, List, [], ◌∷◌, length, arith, refl, sym, ap, ap₂, subst, ◌∙◌, ◌<ℤ◌, unsigned_abs}
+use Rattle.std.proofs.Common.{◌≡◌, ℕ, zero, suc, ◌+◌, ◌<◌, List, length, arith, sym, ap, ap₂, subst, ◌∙◌, ◌<ℤ◌, unsigned_abs}
 use Rattle.std.proofs.lemmas.Int.{ints}
 use Rattle.std.proofs.Math.IntN.{ℤ, pos, ◌*ℤ◌}
-use Rattle.int_vectors.specs.Vectors.{Each, dot, sub}
+use Rattle.wide_int.proofs.Ring.{mul_zero_ℤ}
+use Rattle.int_vectors.specs.Vectors.{Each, dot}
 use Rattle.reduced_rows.specs.Carried.{unit}
 use Rattle.reduced_rows.specs.CellRefusals.{IsEliminated}
-use Rattle.cayley.specs.Problems.{Point, Problem, IsProblem, point_at}
-use Rattle.cayley.specs.Cells.{Cell, EachPair, IsOf}
-use Rattle.cayley.specs.Dependencies.{support_at, pair_at}
+use Rattle.cayley.specs.Problems.{Problem, IsProblem}
+use Rattle.cayley.specs.Cells.{Cell, IsOf}
 use Rattle.cayley.specs.Rows.{edge_rows}
 use Rattle.inner_normal.specs.Inverses.{Inverse, inverse_of, scaled_columns, IsInverseOf}
-use Rattle.inner_normal.proofs.Meaning.{length-columns}
+use Rattle.inner_normal.proofs.Meaning.{length-columns, columns_long}
 use Rattle.reduced_rows.specs.Denominators.{lcm_from}
-use Rattle.carried_inverse.specs.Systems.{line, differences, IsInverseOfCell}
-use Rattle.carried_inverse.proofs.FromRows.{inverse_of_cell, columns_long}
+use Rattle.carried_inverse.specs.Systems.{IsInverseOfCell}
+use Rattle.carried_inverse.proofs.FromRows.{inverse_of_cell}
 use Rattle.path_trace.specs.declared.trace.TraceNode.{TraceNode}
 use Rattle.path_trace.specs.Matrices.{column}
 use Rattle.path_trace.specs.Inverses.{in_identity, IsInverseOver}
+use Rattle.path_trace.proofs.Independence.{difference_at}
 use Rattle.path_tracer.specs.Rows.{rows_of}
 use Rattle.path_tracer.specs.Nodes.{inverse_in, HasInverse}
 use Rattle.path_tracer.proofs.Matrices.{rows_long, column_of, columns_of}
 
-nothing : (g : ℤ) → g *ℤ pos 0 ≡ pos 0
-nothing g = omega (arith, ints)
-
 identity : (g : ℤ) (i k : ℕ) → g *ℤ unit i k ≡ in_identity g i k
 identity g zero zero = omega (arith, ints)
-identity g zero (suc k) = nothing g
-identity g (suc i) zero = nothing g
+identity g zero (suc k) = mul_zero_ℤ g
+identity g (suc i) zero = mul_zero_ℤ g
 identity g (suc i) (suc k) = identity g i k
-
-difference_at : (supports : List (List Point)) (cell : Cell) (P : List Point → ℕ → ℕ → Type 0) → EachPair supports cell P → (i : ℕ) → i < length supports
-    → line (differences supports cell) i ≡ sub (point_at (support_at supports i) (pair_at cell i).1).coordinates (point_at (support_at supports i) (pair_at cell i).0).coordinates
-difference_at [] cell P e i l = absurd (omega (arith, l))
-difference_at (s ∷ supports) [] P e i l = absurd e
-difference_at (s ∷ supports) (x ∷ cell) P e zero l = refl
-difference_at (s ∷ supports) (x ∷ cell) P e (suc i) l = difference_at supports cell P e.1 i (omega (arith, l))
 
 module _ (p : Problem) (cell : Cell) (well : IsProblem p) (of : IsOf p cell) (a : Inverse) (is : IsInverseOfCell p cell a) where
   over : IsInverseOver p cell a.den (rows_of p.dimension 0 a.columns)

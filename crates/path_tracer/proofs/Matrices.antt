@@ -4,10 +4,10 @@ use Rattle.std.proofs.Math.IntN.{ℤ, pos}
 use Rattle.std.proofs.Math.ListN.{get_or-append, drop_of_length-le}
 use Rattle.std.proofs.Math.Seq.{drop-cons, drop-append_seam}
 use Rattle.std.proofs.lemmas.List.{get_or-map, length-map}
-use Rattle.int_vectors.specs.Vectors.{Each, at}
-use Rattle.carried_inverse.proofs.ColumnSteps.{each_at}
+use Rattle.int_vectors.specs.Vectors.{Each, at, entries_at}
+use Rattle.reduced_rows.proofs.Picking.{each_at}
 use Rattle.path_trace.specs.Matrices.{column, columns_from, columns}
-use Rattle.path_tracer.specs.Rows.{entries_at, rows_of}
+use Rattle.path_tracer.specs.Rows.{rows_of}
 
 front_gone : (xs ys : List ℤ) (n : ℕ) → length xs ≡ n → drop n (xs ++ ys) ≡ ys
 front_gone xs ys n e = subst (λ k. drop k (xs ++ ys) ≡ ys) e (drop-append_seam xs ys)

@@ -4,10 +4,10 @@ use Rattle.std.proofs.Math.IntN.{ℤ}
 use Rattle.std.proofs.lemmas.List.{take_more, map-append}
 use Rattle.wide_int.specs.Whole.{FitsWhole}
 use Rattle.int_vectors.specs.Fits.{AllFit}
-use Rattle.int_vectors.specs.Vectors.{Each, at}
+use Rattle.int_vectors.specs.Vectors.{Each, at, entries_at}
 use Rattle.cayley.proofs.OneCell.EdgeRows.{fits-append}
 use Rattle.cayley.proofs.Lists.Each.{each_weaker}
-use Rattle.path_tracer.specs.Rows.{entries_at, rows_of}
+use Rattle.path_tracer.specs.Rows.{rows_of}
 
 pub entry_more : (place : ℕ) (columns : List (List ℤ)) (i : ℕ) (first old new : List ℤ) (x : ℤ) → i < length columns → old ≡ first ++ entries_at place (take i columns) → x ≡ at (get_or columns i []) place → new ≡ old ++ x ∷ []
     → new ≡ first ++ entries_at place (take (i + 1) columns)

@@ -16,14 +16,15 @@ use Rattle.cayley.specs.Shares.{IsTrueBranch, GivesSizes, IsChildren, Solved}
 use Rattle.cayley.proofs.Lists.Each.{each_append}
 use Rattle.cayley.proofs.Searching.Members.{has_contains, contains_has}
 use Rattle.cayley.proofs.Searching.Shares.{true_of}
-use Rattle.cayley.proofs.Searching.Steps.{weight}
+use Rattle.cayley.proofs.Searching.Steps.{weight, each_in}
+use Rattle.cayley.proofs.Order.Lined.{each_has}
 use Rattle.start_system.specs.Started.{IsOnlyEarly}
 use Rattle.searcher.specs.declared.branches.Branch.{Branch}
 use Rattle.searcher.specs.declared.expansions.Expansion.{Expansion}
 use Rattle.searcher.specs.Branches.{branch_of, branches_of}
 use Rattle.searcher.specs.Expansions.{IsExpansion}
 use Rattle.searcher.specs.Searches.{IsLeft, opened, found_in, top}
-use Rattle.searcher.proofs.Turns.{turn_of, turn_falls, turn_left, each_in, in_each}
+use Rattle.searcher.proofs.Turns.{turn_of, turn_falls, turn_left}
 use Rattle.search_team.specs.Accounts.{IsBalance}
 use Rattle.search_team.proofs.Balances.{balance_more, balance_permuted, balance_then}
 use Rattle.search_team.proofs.Expanded.{expansion_balance}
@@ -67,7 +68,7 @@ cells_of_branches (k ∷ kids) = ap (λ l. k.cell ∷ l) (cells_of_branches kids
 
 -- ---- lists in any order
 pub each_moved : {A : Type 0} (P : A → Type 0) (xs ys : List A) → IsPermutation xs ys → Each xs P → Each ys P
-each_moved P xs ys moved e = each_in P ys (λ y h. in_each P xs y e (contains_has xs y (Contains-permutation ys xs y (IsPermutation-sym xs ys moved) (has_contains ys y h))))
+each_moved P xs ys moved e = each_in P ys (λ y h. each_has P xs y e (contains_has xs y (Contains-permutation ys xs y (IsPermutation-sym xs ys moved) (has_contains ys y h))))
 
 turned : (rest kids : List Branch) → IsPermutation (rest ++ kids) (rest ++ reverse kids)
 turned rest kids = IsPermutation-append_right rest kids (reverse kids) (IsPermutation-reverse kids)

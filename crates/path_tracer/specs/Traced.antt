@@ -4,10 +4,10 @@ use Rattle.int_vectors.specs.Vectors.{Each}
 use Rattle.cayley.specs.Problems.{Problem}
 use Rattle.cayley.specs.Paths.{start_cell}
 use Rattle.cayley.specs.Shares.{IsShare}
+use Rattle.cayley.specs.Stored.{cells_of}
 use Rattle.start_system.specs.Started.{start_branch, IsTreeSize}
 use Rattle.searcher.specs.Workings.{FitsWorking}
 use Rattle.searcher.specs.Expansions.{HasLowestNormal}
-use Rattle.searcher.specs.Searches.{cells_of}
 use Rattle.path_trace.specs.declared.trace.Trace.{Trace}
 use Rattle.path_trace.specs.Preorders.{IsPreorder, cells_in}
 use Rattle.path_tracer.specs.Nodes.{HasInverse}

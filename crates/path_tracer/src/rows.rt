@@ -1,7 +1,7 @@
 ghost use Rattle.std.specs.Prelude.{◌≡◌, ◌<◌, ◌++◌, IfOk, OnOk, map, length};
 ghost use Rattle.int_vectors.specs.Fits.{AllFit};
-ghost use Rattle.int_vectors.specs.Vectors.{Each, at};
-ghost use Rattle.path_tracer.specs.Rows.{entries_at, rows_of};
+ghost use Rattle.int_vectors.specs.Vectors.{Each, at, entries_at};
+ghost use Rattle.path_tracer.specs.Rows.{rows_of};
 
 use int_vectors::IntVec;
 use std::alloc::Global;

@@ -1,3 +1,4 @@
+ghost use Rattle.cayley.specs.Stored.{cells_of};
 ghost use Rattle.std.specs.Prelude.{◌≡◌, ◌+◌, ◌≤◌, ◌++◌, [], ◌∷◌, IfOk, IfErr, IsTrue, MatchResult, IsPermutation, reverse, length, vec_len, vec_capacity};
 ghost use Rattle.cayley.specs.Paths.{start_cell};
 ghost use Rattle.cayley.specs.Problems.{IsStill};
@@ -6,7 +7,7 @@ ghost use Rattle.cayley.specs.Ties.{IsTieFree};
 ghost use Rattle.start_system.specs.Started.{IsStarted};
 ghost use Rattle.searcher.specs.Branches.{branch_of, children_of};
 ghost use Rattle.searcher.specs.Expansions.{IsExpansion, IsCause, ShowsTieAtEnd, HasNoTie};
-ghost use Rattle.searcher.specs.Searches.{NeverFalls, cells_of, opened, found_in};
+ghost use Rattle.searcher.specs.Searches.{NeverFalls, opened, found_in};
 ghost use Rattle.search_team.specs.PathSearches.{IsHalted};
 ghost use Rattle.path_tracer.specs.Nodes.{HasInverse, HasFurther};
 ghost use Rattle.path_tracer.specs.Traced.{IsTraced};

@@ -11,6 +11,7 @@ use Rattle.cayley.specs.declared.found.Normal.{Normal}
 use Rattle.cayley.specs.Valid.{IsValidProblem, IsValidCell}
 use Rattle.cayley.proofs.Searching.Listing.{Has}
 use Rattle.cayley.proofs.Searching.Members.{has_contains, contains_has}
+use Rattle.cayley.specs.Stored.{cells_of}
 use Rattle.plain_lister.specs.Choices.{most_points, HasTooMany, HavePairs}
 use Rattle.plain_lister.specs.Lists.{HasLowestNormal, IsFirstUnfit, IsJudged, AllFit, IsPlainFault}
 use Rattle.plain_lister.specs.Order.{IsChoice, IsLast, IsNext, firsts, left_after}
@@ -18,7 +19,7 @@ use Rattle.plain_lister.specs.Wheels.{Show}
 use Rattle.plain_lister.specs.declared.wheels.Wheel.{Wheel}
 use Rattle.plain_lister.specs.declared.faults.PlainFault.{PlainFault}
 use Rattle.plain_lister.specs.declared.faults.PlainFault.TheVariants.{TooMany, Overflow, OutOfMemory}
-use Rattle.plain_lister.specs.Progress.{cells_of, IsDone, Before, UpTo, Tried, IsUnfitAt, IsSearchFault, steps_left}
+use Rattle.plain_lister.specs.Progress.{IsDone, Before, UpTo, Tried, IsUnfitAt, IsSearchFault, steps_left}
 use Rattle.cone_walls.specs.Workings.{FitsWallWorking}
 use Rattle.plain_lister.proofs.Odometer.{first_is, have_pairs}
 use Rattle.plain_lister.proofs.Plain.{own_points, counts_of}

@@ -1,13 +1,13 @@
-pub mod Odometer
-pub mod Turning
-pub mod Picking
-pub mod Listed
-pub mod Shown
-pub mod Plain
-pub mod Growing
-pub mod Numbering
+mod Odometer
+mod Turning
+mod Picking
+mod Listed
+mod Shown
+mod Plain
+mod Growing
+mod Numbering
 pub mod PlainProblem
-pub mod Judged
-pub mod LinePlaces
-pub mod LineTies
-pub mod TieSearch
+mod Judged
+mod LinePlaces
+mod LineTies
+mod TieSearch

@@ -1,9 +1,9 @@
 -- the places of a cell's lines and its further points
-use Rattle.std.proofs.Common.{◌≡◌, ◌⊎◌, inl, inr, ℕ, zero, suc, ◌+◌, ◌-◌, ◌<◌, ◌≤◌, List, [], ◌∷◌, length, slice_index_or, arith, refl, sym, ap, subst, ◌∙◌}
+use Rattle.std.proofs.Common.{◌≡◌, inl, inr, ℕ, zero, suc, ◌-◌, ◌<◌, ◌≤◌, List, [], ◌∷◌, length, slice_index_or, arith, refl, sym, subst}
 use Rattle.int_vectors.specs.Vectors.{Each}
+use Rattle.lex_height.proofs.Ranks.{three}
 use Rattle.cayley.specs.Problems.{Problem}
 use Rattle.cayley.specs.Cells.{Cell}
-use Rattle.cayley.specs.Dependencies.{IsFurtherAt}
 use Rattle.cayley.specs.StoredTies as stored
 use Rattle.cayley.specs.StoredTies.{Spot, IsFurtherSpot}
 use Rattle.cayley.specs.NamedTies as named
@@ -47,15 +47,6 @@ not_both x y (inl l) (inl k) = omega (arith, l, k)
 not_both x y (inl l) (inr k) = let a = k.0 in omega (arith, l, a)
 not_both x y (inr l) (inl k) = let a = l.0 in omega (arith, k, a)
 not_both x y (inr l) (inr k) = let a = l.1 in let b = k.1 in omega (arith, a, b)
-
-three : (i j : ℕ) → (i < j) ⊎ ((i ≡ j) ⊎ (j < i))
-three zero zero = inr (inl refl)
-three zero (suc j) = inl (omega arith)
-three (suc i) zero = inr (inr (omega arith))
-three (suc i) (suc j) = elim (three i j) [
-  | inl l ↦ inl (omega (arith, l))
-  | inr r ↦ elim r [ inl e ↦ inr (inl (ap suc e)) | inr g ↦ inr (inr (omega (arith, g))) ]
-]
 
 module _ (p : Problem) (cell : Cell) (lines : List WallLine) (places : AreOfFurtherPoints p cell lines) where
   -- a line's point is a further point

@@ -4,14 +4,14 @@ use Rattle.std.proofs.lemmas.Int.{ints}
 use Rattle.std.proofs.lemmas.List.{get_or_default}
 use Rattle.std.proofs.Math.IntN.{ℤ, pos, neg_ℤ, ◌*ℤ◌}
 use Rattle.std.specs.Option.{option_map}
-use Rattle.int_vectors.specs.Vectors.{IsZero, IsPositive, scale}
+use Rattle.int_vectors.specs.Vectors.{IsZero, scale}
 use Rattle.lex_height.specs.Entries.{entries}
 use Rattle.lex_height.specs.Values as lex
-use Rattle.cayley.specs.Times.{Time, IsSameTime, time_zero}
+use Rattle.cayley.specs.Times.{Time}
 use Rattle.cayley.specs.Problems.{Problem, IsProblem}
 use Rattle.cayley.specs.Cells.{Cell, IsOf, IsIndependent}
 use Rattle.cayley.specs.Normals.{Normal, IsNormal, IsAbove, IsLevel}
-use Rattle.cayley.specs.Dependencies.{support_at, pair_at, IsFurtherAt}
+use Rattle.cayley.specs.Dependencies.{pair_at, IsFurtherAt, nth_support}
 use Rattle.cayley.specs.StoredTies.{Spot, IsFurtherSpot, IsAlwaysLevel}
 use Rattle.cayley.specs.TieProofs.{spot_of}
 use Rattle.cayley.specs.NamedTies as named
@@ -20,7 +20,7 @@ use Rattle.cayley.proofs.OneCell.CellNormals.{a_normal}
 use Rattle.cayley.proofs.Life.NamedTies.{pair_place, place_pair, named_tie_law}
 use Rattle.crossing.specs.declared.line.WallLine.{WallLine}
 use Rattle.crossing.specs.declared.ties.Tie.{Tie}
-use Rattle.crossing.specs.Lines.{value, IsFlat}
+use Rattle.crossing.specs.Lines.{IsFlat}
 use Rattle.crossing.specs.Places.{HasAt, AreFirstTwo, origin}
 use Rattle.crossing.specs.Ties as lines
 use Rattle.crossing.specs.Ties.{IsZeroThen, IsNotNegative}
@@ -36,7 +36,7 @@ as_time t q pq = record { entries = t; over = q; positive = pq }
 
 -- a spot's support and first point of its pair
 abbrev Level : Problem → Cell → Time → Normal → Spot → Type 0
-Level p cell t v x = IsLevel t v (support_at p.supports (x.0 - 1)) (pair_at cell (x.0 - 1)).0 x.1
+Level p cell t v x = IsLevel t v (nth_support p.supports (x.0 - 1)) (pair_at cell (x.0 - 1)).0 x.1
 
 zero_turned : (t : List ℤ) → IsZero t → IsZero (scale (neg_ℤ (pos 1)) t)
 zero_turned [] z = tt
@@ -69,17 +69,17 @@ module _ (p : Problem) (cell : Cell) (well : IsProblem p) (of : IsOf p cell) (in
         v.1,
         place_pair (λ s a c. IsAbove t v.0 s a c ⊎ IsLevel t v.0 s a c) _ p.supports cell of (λ j c f.
             let e : j ≡ suc j - 1 = omega arith in
-            subst (λ i. IsAbove t v.0 (support_at p.supports i) (pair_at cell i).0 c ⊎ IsLevel t v.0 (support_at p.supports i) (pair_at cell i).0 c) (sym e)
+            subst (λ i. IsAbove t v.0 (nth_support p.supports i) (pair_at cell i).0 c ⊎ IsLevel t v.0 (nth_support p.supports i) (pair_at cell i).0 c) (sym e)
             (at_spot v.0 v.1 (suc j, c) (omega arith, subst (λ i. IsFurtherAt p cell i c) e f))),
       )
     where
       at_spot : (v : Normal) → IsNormal p cell t v → (x : Spot) → IsFurtherSpot p cell x
-          → IsAbove t v (support_at p.supports (x.0 - 1)) (pair_at cell (x.0 - 1)).0 x.1 ⊎ IsLevel t v (support_at p.supports (x.0 - 1)) (pair_at cell (x.0 - 1)).0 x.1
+          → IsAbove t v (nth_support p.supports (x.0 - 1)) (pair_at cell (x.0 - 1)).0 x.1 ⊎ IsLevel t v (nth_support p.supports (x.0 - 1)) (pair_at cell (x.0 - 1)).0 x.1
       at_spot v n x f =
           let r = place_of p cell ls places x f in
           let s = side t v n r.0 r.1 r.2 in
           let lt : r.0 - 1 < length ls = (let a = r.1 in let b = r.2 in omega (arith, a, b)) in
-          subst (λ (y : Spot). IsAbove t v (support_at p.supports (y.0 - 1)) (pair_at cell (y.0 - 1)).0 y.1 ⊎ IsLevel t v (support_at p.supports (y.0 - 1)) (pair_at cell (y.0 - 1)).0 y.1) r.3
+          subst (λ (y : Spot). IsAbove t v (nth_support p.supports (y.0 - 1)) (pair_at cell (y.0 - 1)).0 y.1 ⊎ IsLevel t v (nth_support p.supports (y.0 - 1)) (pair_at cell (y.0 - 1)).0 y.1) r.3
           (elim (h (r.0 - 1) origin lt) [ inl u ↦ inl (s.0.0 u) | inr z ↦ inr (s.1.0 z) ])
 
   -- ---- level points

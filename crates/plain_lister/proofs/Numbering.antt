@@ -1,10 +1,8 @@
 -- numbers of pairs and of choices
-use Rattle.std.proofs.Common.{◌≡◌, ◌↔◌, inl, inr, ℕ, zero, suc, ◌+◌, ◌-◌, ◌*◌, ◌/◌, ◌<◌, ◌≤◌, List, [], ◌∷◌, ◌++◌, length, map, take, drop, get_or, refl, sym, ap, ap₂, subst, ◌∙◌, arith, ◌%◌, drop-cons, add-one, take_all, div-add-mod'}
+use Rattle.std.proofs.Common.{◌≡◌, ℕ, zero, suc, ◌+◌, ◌-◌, ◌*◌, ◌/◌, ◌<◌, ◌≤◌, List, [], ◌∷◌, length, map, take, get_or, refl, sym, ap, ap₂, subst, ◌∙◌, arith, ◌%◌, div-add-mod'}
 use Rattle.std.proofs.Math.Nat.{mod-lt}
 use Rattle.int_vectors.specs.Vectors.{Each}
 use Rattle.cayley.specs.Problems.{Point, Problem}
-use Rattle.cayley.specs.Valid.{IsValidProblem, support_at}
-use Rattle.plain_lister.proofs.Odometer.{less_or_same}
 use Rattle.plain_lister.specs.Choices.{pairs_of, product, pair_counts, HasTooMany, IsExcessOf, HavePairs}
 
 product-more : (ns : List ℕ) (i : ℕ) (d : ℕ) → i < length ns → product (take (i + 1) ns) ≡ product (take i ns) * get_or ns i d
@@ -29,28 +27,6 @@ pub each_count : (P : ℕ → Type 0) (counts : List ℕ) (i : ℕ) → i < leng
 each_count P [] i lt e = absurd (omega arith)
 each_count P (m ∷ counts) zero lt e = e.0
 each_count P (m ∷ counts) (suc i) lt e = each_count P counts i (omega arith) e.1
-
-pub all_choices : (counts : List ℕ) (i choices : ℕ) → length counts ≤ i → choices ≡ product (take i (map pairs_of counts)) → choices ≤ 1000000 → product (map pairs_of counts) ≤ 1000000
-all_choices counts i choices le e h =
-    let t : take i (map pairs_of counts) ≡ map pairs_of counts = take_all i (map pairs_of counts) (let l = length-map pairs_of counts in omega (arith, le, l)) in
-    subst (λ n. n ≤ 1000000) (e ∙ ap product t) h
-
-pub have_step : (counts : List ℕ) (i : ℕ) → i < length counts → HavePairs (drop i counts) ↔ ((2 ≤ get_or counts i 0) × HavePairs (drop (i + 1) counts))
-have_step counts i lt = let e : HavePairs (drop i counts) ≡ ((2 ≤ get_or counts i 0) × HavePairs (drop (i + 1) counts)) = rw (add-one, drop-cons counts i 0 lt) refl in ((λ h. subst (λ T. T) e h), (λ h. subst (λ T. T) (sym e) h))
-
-counts-take : (supports : List (List Point)) (i : ℕ) → i < length supports → map (λ (s : List Point). length s) (take (i + 1) supports) ≡ map (λ (s : List Point). length s) (take i supports) ++ length (get_or supports i []) ∷ []
-counts-take [] i lt = absurd (omega arith)
-counts-take (s ∷ supports) zero lt = refl
-counts-take (s ∷ supports) (suc i) lt = let e : suc i + 1 ≡ suc (i + 1) = omega arith in rw e (ap (λ l. length s ∷ l) (counts-take supports i (omega arith)))
-
-pub counts_more : (p : Problem) (i count : ℕ) (old new : List ℕ) → IsValidProblem p → i < p.dimension → old ≡ map (λ (s : List Point). length s) (take i p.supports) → count ≡ length (support_at p (i + 1)) → new ≡ old ++ count ∷ []
-    → new ≡ map (λ (s : List Point). length s) (take (i + 1) p.supports)
-counts_more p i count old new valid lt e f g =
-    let k : i ≡ i + 1 - 1 = omega arith in
-    g ∙ ap₂ (λ l n. l ++ n ∷ []) e (f ∙ ap (λ j. length (get_or p.supports j [])) (sym k)) ∙ sym (counts-take p.supports i (let l = valid.shape.problem.supports in omega (arith, lt, l)))
-
-pub counts_end : (p : Problem) (i : ℕ) (made : List ℕ) → IsValidProblem p → p.dimension ≤ i → made ≡ map (λ (s : List Point). length s) (take i p.supports) → made ≡ map (λ (s : List Point). length s) p.supports
-counts_end p i made valid le e = e ∙ ap (map (λ (s : List Point). length s)) (take_all i p.supports (let l = valid.shape.problem.supports in omega (arith, le, l)))
 
 -- numbers of choices
 pub counted : (supports : List (List Point)) → map pairs_of (map (λ (s : List Point). length s) supports) ≡ pair_counts supports
@@ -112,7 +88,3 @@ no_product (suc (suc m) ∷ counts) n = let e = no_product counts (λ h. n (omeg
 
 pub none_many : (p : Problem) (counts : List ℕ) → counts ≡ map (λ (s : List Point). length s) p.supports → ¬ (HavePairs counts) → ¬ (HasTooMany p)
 none_many p counts e n = few_enough p counts e (let z = no_product counts n in omega (arith, z))
-
--- up to one more position
-pub up_more : (P : ℕ → Type 0) (i : ℕ) → ((c : ℕ) → c ≤ i → P c) → P (i + 1) → (c : ℕ) → c ≤ i + 1 → P c
-up_more P i f h c l = elim (less_or_same c (i + 1) l) [ inl k ↦ f c (omega arith) | inr k ↦ subst P (sym k) h ]

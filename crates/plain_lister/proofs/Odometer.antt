@@ -31,10 +31,6 @@ head_of x y c d e = same_pair x y (ap (λ l. (get_or l 0 x).0) e) (ap (λ l. (ge
 tail_of : (x y : Pair) (c d : Cell) → x ∷ c ≡ y ∷ d → c ≡ d
 tail_of x y c d e = ap (drop 1) e
 
-pair_apart : (x : Pair) → ¬ (IsPairLess x x)
-pair_apart x (inl h) = omega arith
-pair_apart x (inr h) = let k = h.1 in omega arith
-
 next_tail : (m : ℕ) (counts : List ℕ) (x : Pair) (cell next : Cell) → IsNext counts cell next → IsNext (m ∷ counts) (x ∷ cell) (x ∷ next)
 next_tail m counts x cell next n [] c = absurd c
 next_tail m counts x cell next n (y ∷ other) c = (

@@ -78,10 +78,6 @@ read_pair n pool ds u e b r = go ds r.0 b r.1 r.3
         let h : slice_index_or pool i w ≡ 1 + i = ap (λ l. slice_index_or l i w) e ∙ read_number 1 n i w b.1.0 in
         ap₂ (λ (a b : ℕ). let z : ℕ × ℕ = (a, b) in z) (omega (arith, x, g)) (omega (arith, y, h))
 
-pub same_map : (xs : List ℕ) → map (λ x. x) xs ≡ xs
-same_map [] = refl
-same_map (x ∷ xs) = ap (λ l. x ∷ l) (same_map xs)
-
 pub start : (n len : ℕ) (pool : List ℕ) (left : List (List ℕ)) → pool ≡ range_with_len 1 n → len ≡ length pool → left ≡ ways ascending_low (ascending_high len 2) 2 []
     → (map places_pair left ≡ all_pairs n) × Inside n left
 start n len pool left e m f =

@@ -1,24 +1,12 @@
 -- a problem of file points alone: its speeds are zero where it is still, and it is the problem of its file points
-use Rattle.std.proofs.Common.{◌≡◌, inl, inr, arith, ℕ, suc, ◌+◌, ◌≤◌, List, [], ◌∷◌, length, map, take, refl, sym, ap, subst, ◌∙◌}
+use Rattle.std.proofs.Common.{◌≡◌, inl, inr, arith, ℕ, suc, ◌+◌, ◌≤◌, List, [], ◌∷◌, length, take, sym, ap, subst, ◌∙◌}
 use Rattle.std.proofs.Math.IntN.{pos}
 use Rattle.int_vectors.specs.Vectors.{Each}
-use Rattle.cayley.specs.Problems.{Point, Problem, EachSupport, IsStill, ranked_supports, first_points, file_points, HasNoCorners}
+use Rattle.cayley.specs.Problems.{Point, Problem, EachSupport, IsStill, ranked_supports, file_points, HasNoCorners}
 use Rattle.cayley.specs.declared.limits.TheConstants.{POINTS}
 use Rattle.cayley.specs.Valid.{IsValidProblem}
+use Rattle.cayley.proofs.OneCell.PlainProblems.{take_whole as take_length, whole_supports}
 use Rattle.plain_lister.specs.Choices.{most_points}
-
-take_whole : (s : List Point) → take (length s) s ≡ s
-take_whole [] = refl
-take_whole (x ∷ s) = ap (λ l. x ∷ l) (take_whole s)
-
-take_length : (s : List Point) (f : ℕ) → length s ≡ f → take f s ≡ s
-take_length s f e = subst (λ n. take n s ≡ s) e (take_whole s)
-
-whole_supports : (i : ℕ) (files : List ℕ) (supports : List (List Point)) → EachSupport i files supports (λ j f s. length s ≡ f) → first_points files supports ≡ supports
-whole_supports i [] [] e = refl
-whole_supports i [] (s ∷ supports) e = absurd e
-whole_supports i (f ∷ files) [] e = absurd e
-whole_supports i (f ∷ files) (s ∷ supports) e = ap (λ l. l ∷ first_points files supports) (take_length s f e.0) ∙ ap (λ l. s ∷ l) (whole_supports (suc i) files supports e.1)
 
 -- what is said of the first points of each support is said of all
 pub of_all : (Q : Point → Type 0) (i : ℕ) (files : List ℕ) (supports : List (List Point)) → EachSupport i files supports (λ j f s. length s ≡ f)

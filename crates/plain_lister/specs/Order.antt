@@ -47,7 +47,7 @@ IsNext counts cell next = (other : Cell) → IsChoice counts other → IsLess ot
 abbrev pub firsts : List ℕ → Cell
 firsts counts = map (λ m. (1, 2)) counts
 
--- a number that falls from each choice to the next
+-- more than `left_after` can be for these supports
 abbrev pub room : List ℕ → ℕ
 room [] = 1
 room (m ∷ counts) = m * m * room counts
@@ -55,6 +55,7 @@ room (m ∷ counts) = m * m * room counts
 abbrev pub pair_left : ℕ → Pair → ℕ
 pair_left m x = (m - x.0) * m + (m - x.1)
 
+-- a number that falls from each choice to the next
 abbrev pub left_after : List ℕ → Cell → ℕ
 left_after [] cell = 0
 left_after (m ∷ counts) [] = 0

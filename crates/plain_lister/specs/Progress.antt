@@ -1,18 +1,16 @@
 -- What the list holds while the choices are tried in cell order.
-use Rattle.std.specs.Prelude.{◌≡◌, ◌⊎◌, ℕ, ◌+◌, Bool, true, false, List, map}
+use Rattle.std.specs.Prelude.{◌≡◌, ◌⊎◌, ℕ, ◌+◌, Bool, true, false, List}
 use Rattle.int_vectors.specs.Vectors.{Each}
 use Rattle.cayley.specs.declared.found.FoundCell.{FoundCell}
 use Rattle.cayley.specs.Problems.{Problem}
 use Rattle.cayley.specs.Cells.{Cell, IsOf, IsLess, IsListOf}
 use Rattle.cayley.specs.Mixed.{IsMixedCell}
+use Rattle.cayley.specs.Stored.{cells_of}
 use Rattle.plain_lister.specs.declared.faults.PlainFault.{PlainFault}
 use Rattle.plain_lister.specs.declared.faults.PlainFault.TheVariants.{TooMany, Overflow, OutOfMemory}
 use Rattle.plain_lister.specs.Lists.{HasLowestNormal, IsFirstUnfit}
 use Rattle.plain_lister.specs.Order.{left_after}
 use Rattle.cone_walls.specs.Workings.{FitsWallWorking}
-
-abbrev pub cells_of : List FoundCell → List Cell
-cells_of found = map (λ (f : FoundCell). f.cell) found
 
 -- of the choices in D the workings fit, and the mixed cells are found, each once, in cell order
 pub record IsDone (p : Problem) (D : Cell → Type 0) (found : List FoundCell) : Type 0 where

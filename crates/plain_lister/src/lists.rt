@@ -1,3 +1,4 @@
+ghost use Rattle.cayley.specs.Stored.{cells_of};
 ghost use Rattle.std.specs.Prelude.{◌≡◌, ◌<◌, ◌≤◌, ◌+◌, ◌↔◌, ℕ, Bool, IsTrue, List, map, length, MatchResult, IfOk, IfErr};
 ghost use Rattle.cayley.specs.Mixed.{IsMixedCell};
 ghost use Rattle.cayley.specs.Cells.{IsListOf};
@@ -8,7 +9,7 @@ ghost use Rattle.plain_lister.specs.Choices.{HasTooMany, HavePairs};
 ghost use Rattle.plain_lister.specs.Lists.{HasLowestNormal, AllFit, IsPlainFault};
 ghost use Rattle.plain_lister.specs.Order.{IsChoice, firsts, left_after};
 ghost use Rattle.plain_lister.specs.Wheels.{Show};
-ghost use Rattle.plain_lister.specs.Progress.{IsDone, Before, Tried, IsSearchFault, cells_of, steps_left};
+ghost use Rattle.plain_lister.specs.Progress.{IsDone, Before, Tried, IsSearchFault, steps_left};
 
 use crate::choices::advance;
 use crate::counting::{counts_of, excess, have_pairs};

@@ -18,9 +18,6 @@ use Rattle.poly_text.specs.Collecting.{plain}
 abbrev pub keys_cmp : Vec ℤ → Vec ℤ → Ordering
 keys_cmp x y = slice_cmp int_cmp x.items y.items
 
-looked : (b : Bool) (z : ℤ) (o p : Option ℤ) → o ≡ p → cond b (Some z) o ≡ cond b (Some z) p
-looked b z o p e = ap (cond b (Some z)) e
-
 pub lookup_plain : (key : Vec ℤ) (es : List (Vec ℤ × ℤ)) → lookup (is_at (exponents_cmp key.items)) (map plain es) ≡ lookup (is_at (keys_cmp key)) es
 lookup_plain key [] = refl
 lookup_plain key (e ∷ es) = ap (cond (is_at (keys_cmp key) e.0) (Some e.1)) (lookup_plain key es)
@@ -100,6 +97,3 @@ removed_is key es fs number total e t h = ap (map plain) e ∙ remove_plain key 
 pub inserted_is : (key : Vec ℤ) (es fs : List (Vec ℤ × ℤ)) (number total : ℤ) → fs ≡ insert_entry keys_cmp es key total → total ≡ coefficient key.items (map plain es) +ℤ number → int_eq total (pos 0) ≡ false
     → map plain fs ≡ plus_term (map plain es) (key.items, number)
 inserted_is key es fs number total e t h = ap (map plain) e ∙ insert_plain key total es ∙ sym (term_put key.items number total (map plain es) t h)
-
-pub zero_is_found : (z : ℤ) → z ≡ pos 0 → int_eq z (pos 0) ≡ true
-zero_is_found z e = rw e refl

@@ -1,7 +1,6 @@
 -- Lists of exponents that are made entry by entry.
-use Rattle.std.proofs.Common.{rules, ◌≡◌, ℕ, suc, zero, ◌+◌, ◌<◌, ◌≤◌, ℤ, ◌+ℤ◌, Bool, true, false, ◌&&◌, List, [], ◌∷◌, ◌++◌, length, drop, Option, Some, None, slice_index_or, refl, sym, ap, ◌∙◌, append_assoc, append-nil, arith, if◌then◌else◌}
+use Rattle.std.proofs.Common.{◌≡◌, ℕ, suc, zero, ◌+◌, ◌<◌, ◌≤◌, ℤ, ◌+ℤ◌, Bool, true, false, ◌&&◌, List, [], ◌∷◌, ◌++◌, length, drop, Option, Some, None, slice_index_or, refl, sym, ap, ◌∙◌, append_assoc, append-nil, arith, if◌then◌else◌}
 use Rattle.std.specs.List.{list_all}
-use Rattle.wide_int.specs.Whole.{FitsWhole}
 use Rattle.poly_text.specs.Maps.{sum_of_exponents}
 use Rattle.poly_text.specs.Bounds.{fits}
 
@@ -73,12 +72,6 @@ sum_ends made xs ys k whole h so_far = sym so_far ∙ ap (extended made) (no_mor
 pub sum_ends_left : (made xs ys : List ℤ) (k : ℕ) (whole : Option (List ℤ)) → length xs ≤ k → extended made (rest_of xs ys k) ≡ whole → whole ≡ Some made
 unfolding extended
 sum_ends_left made xs ys k whole h so_far = sym so_far ∙ ap (extended made) (no_more_left xs ys k h) ∙ ap (λ (l : List ℤ). Some l) (append-nil made)
-
-pub fits_yes : (z : ℤ) → FitsWhole z → fits z ≡ true
-fits_yes z h = search rules
-
-pub fits_no : (z : ℤ) → ¬ (FitsWhole z) → fits z ≡ false
-fits_no z h = search rules
 
 pub nothing_made : (zs : List ℤ) → extended [] zs ≡ (if list_all fits zs then Some zs else None)
 unfolding extended

@@ -4,16 +4,19 @@ use Rattle.std.specs.Prelude.{int_le, codes, bytes_eq, IfOk}
 use Rattle.std.specs.List.{list_all}
 use Rattle.std.proofs.lemmas.Int.{ints}
 use Rattle.std.proofs.lemmas.Map.Keys.{Less-from_sorted}
+use Rattle.wide_int.proofs.Bools.{some_is}
 use Rattle.int_vectors.specs.Vectors.{Each}
 use Rattle.cayley.specs.Valid.{AreDistinct, IsCoordinate}
 use Rattle.cayley.proofs.Refusals.Repeats.{equal_lists}
 use Rattle.line_text.specs.declared.numbers.BadNumber.TheVariants.{Spelling, Outside}
 use Rattle.line_text.specs.Numbers.{is_number, value_of, number_in}
 use Rattle.line_text.specs.Lines.{Row, lines_of, end_line_of}
+use Rattle.cayley.proofs.Lists.Each.{each_weaker}
 use Rattle.support_text.specs.declared.fault.TextFault.{TextFault}
 use Rattle.support_text.specs.Faults.{Gives, series}
 use Rattle.support_text.specs.Words.{Text, words}
 use Rattle.support_text.proofs.Series.{bind_ok, ok_is}
+use Rattle.support_text.proofs.Kept.{int_le_is}
 use Rattle.poly_text.specs.declared.causes.Cause.TheVariants.{Range, Bound}
 use Rattle.poly_text.specs.declared.symbols.Symbol.{Symbol}
 use Rattle.poly_text.specs.Maps.{Monomial, exponents_cmp}
@@ -25,7 +28,6 @@ use Rattle.poly_text.specs.SystemText.{PointSystem, size_of, dimension_in, suppo
 use Rattle.poly_text.specs.Systems.{AreSupports}
 use Rattle.poly_text.proofs.Lengths.{HaveLength}
 use Rattle.poly_text.proofs.SmallValues.{left_true, right_true, read_is_small}
-use Rattle.poly_text.proofs.Ranges.{le_of}
 use Rattle.poly_text.proofs.TreeValues.{HasValue}
 use Rattle.poly_text.proofs.Systems.{tree_of, means_of, system_ok, finish, others, system}
 
@@ -113,15 +115,7 @@ series_kept (suc k) n end before rows all e h =
     let a = bind_ok (polynomial_next n end rows) (λ (x : List (List ℤ) × List Row). series k (polynomial_at n end) (before ++ x.0 ∷ []) x.1) all e in
     series_kept k n end (before ++ a.0.0 ∷ []) a.0.1 all a.2 (each_push n before a.0.0 h (next_kept n end rows a.0 a.1))
 
-each_as : {A : Type 0} (P Q : A → Type 0) (xs : List A) → ((x : A) → P x → Q x) → Each xs P → Each xs Q
-each_as P Q [] f h = tt
-each_as P Q (x ∷ xs) f h = (f x h.0, each_as P Q xs f h.1)
-
 -- ---- the dimension
-
-some_is : (m n : ℕ) → Some m ≡ Some n → m ≡ n
-some_is m n e = cc
-
 size_inside : (numeral low high : Bool) (v : ℤ) (n : ℕ) → size_of (if numeral then (if low && high then Ok v else Err Outside) else Err Spelling) ≡ Some n → (low ≡ true) × (high ≡ true) × (unsigned_abs v ≡ n)
 size_inside true true true v n e = (refl, refl, some_is (unsigned_abs v) n e)
 size_inside true true false v n e = absurd cc
@@ -133,8 +127,8 @@ unfolding number_in
 size_within d n e =
     let v = value_of d in
     let i = size_inside (is_number d) (int_le (pos 1) v) (int_le v (pos 16)) v n e in
-    let a = le_of (pos 1) v i.0 in
-    let b = le_of v (pos 16) i.1 in
+    let a = int_le_is (pos 1) v i.0 in
+    let b = int_le_is v (pos 16) i.1 in
     let c = i.2 in
     (omega (arith, ints, a, b, c), omega (arith, ints, a, b, c))
 
@@ -165,10 +159,10 @@ are_supports bytes s e =
     record {
       dimension = dimension_within (words is.first) s.dimension is.dimension;
       count = is.count;
-      counts = each_as (AreKept s.dimension) (λ p. (1 ≤ length p) × (length p ≤ 1000)) s.supports (λ p k. k.counts) kept;
-      points = each_as (AreKept s.dimension) (λ p. Each p (λ x. length x ≡ s.dimension)) s.supports (λ p k. k.long) kept;
-      limits = each_as (AreKept s.dimension) (λ p. Each p (λ x. Each x IsCoordinate)) s.supports (λ p k. k.limits) kept;
-      distinct = each_as (AreKept s.dimension) (λ p. AreDistinct p) s.supports (λ p k. k.distinct) kept;
+      counts = each_weaker (AreKept s.dimension) (λ p. (1 ≤ length p) × (length p ≤ 1000)) s.supports (λ p k. k.counts) kept;
+      points = each_weaker (AreKept s.dimension) (λ p. Each p (λ x. length x ≡ s.dimension)) s.supports (λ p k. k.long) kept;
+      limits = each_weaker (AreKept s.dimension) (λ p. Each p (λ x. Each x IsCoordinate)) s.supports (λ p k. k.limits) kept;
+      distinct = each_weaker (AreKept s.dimension) (λ p. AreDistinct p) s.supports (λ p k. k.distinct) kept;
     }
 
 pub answer_supports : (bytes : List ℕ) (r : Result PointSystem TextFault) → Gives (λ s. s) r (system_of bytes) → IfOk r (λ s. AreSupports s)

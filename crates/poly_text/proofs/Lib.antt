@@ -1,18 +1,18 @@
-pub mod ExponentLists
-pub mod Entries
-pub mod TermSums
-pub mod WrittenReads
-pub mod ReadWrites
-pub mod SymbolWords
-pub mod SymbolLoops
-pub mod SmallValues
-pub mod Lengths
-pub mod Negatives
-pub mod Totals
-pub mod Products
-pub mod TreeValues
-pub mod Supports
-pub mod Ranges
-pub mod Systems
-pub mod FilePoints
-pub mod Exactly
+mod ExponentLists
+mod Entries
+mod TermSums
+mod WrittenReads
+mod ReadWrites
+mod SymbolWords
+mod SymbolLoops
+mod SmallValues
+mod Lengths
+mod Negatives
+mod Totals
+mod Products
+mod TreeValues
+mod Supports
+mod Ranges
+mod Systems
+mod FilePoints
+mod Exactly

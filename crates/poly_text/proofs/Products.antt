@@ -16,9 +16,7 @@ use Rattle.poly_text.specs.Bounds.{Verdict, ◌>>=◌, with_term, collected}
 use Rattle.poly_text.specs.Values.{are_same, number_at, total_at}
 use Rattle.poly_text.proofs.Lengths.{HaveLength}
 use Rattle.poly_text.proofs.Totals.{IsMap, IsMore, one_more}
-
-abbrev good : List Monomial → Verdict (List Monomial)
-good f = Ok f
+use Rattle.poly_text.proofs.TermSums.{good}
 
 good_is : (f g : List Monomial) → good f ≡ good g → f ≡ g
 good_is f g e = cc

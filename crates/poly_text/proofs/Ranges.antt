@@ -1,7 +1,9 @@
 -- A number out of its limits is what makes a polynomial mean `Range`.
-use Rattle.std.proofs.Common.{◌≡◌, ℕ, suc, zero, ℤ, pos, neg_ℤ, ◌≤ℤ◌, Bool, true, false, ◌&&◌, List, [], ◌∷◌, map, Option, Some, None, Ok, Err, refl, arith, if◌then◌else◌}
+use Rattle.std.proofs.Common.{◌≡◌, ℕ, suc, zero, ℤ, pos, neg_ℤ, Bool, true, false, ◌&&◌, List, [], ◌∷◌, map, Option, Some, None, Ok, Err, refl, arith, if◌then◌else◌}
 use Rattle.std.specs.Prelude.{int_le}
 use Rattle.std.proofs.lemmas.Int.{ints}
+use Rattle.support_text.proofs.Numbers.{both_are, int_le_true}
+use Rattle.support_text.proofs.Kept.{int_le_is}
 use Rattle.poly_text.specs.declared.causes.Cause.TheVariants.{Range, Bound}
 use Rattle.poly_text.specs.declared.reading.Base.TheVariants.{Named, Valued}
 use Rattle.poly_text.specs.Maps.{Monomial, plus_term, signed, products, constant, power_of_variable}
@@ -70,16 +72,6 @@ ranged_both P Q op (Ok f) (Err Bound) h p q = (p, q)
 ranged_both P Q op (Ok f) (Ok g) h p q = ranged_sized (P × Q) (op f g) (h f g) (p, q)
 
 -- ---- tests
-
-both_of : (a b : Bool) → a ≡ true → b ≡ true → (a && b) ≡ true
-both_of a b p q = rw (p, q) refl
-
-pub le_of : (x y : ℤ) → int_le x y ≡ true → x ≤ℤ y
-le_of x y h = grind (arith, ints)
-
-le_to : (x y : ℤ) → x ≤ℤ y → int_le x y ≡ true
-le_to x y h = grind (arith, ints)
-
 ranged_test : (P : Type 0) (b : Bool) (v : Verdict (List Monomial)) → (b ≡ true → Ranged P v) → (P → b ≡ true) → Ranged P (if b then v else Err Range)
 ranged_test P true v good test = good refl
 ranged_test P false v good test = λ p. let e = test p in absurd cc
@@ -97,8 +89,8 @@ ranged_variable n (Some i) k =
     let d = int_le k (pos 1000000) in
     ranged_test (IsVariable n (Some i) × IsBetween (neg_ℤ (pos 1000000)) (pos 1000000) (Some k)) ((a && b) && (c && d)) (Ok (power_of_variable n i k))
     (λ h. let p = left_true (a && b) (c && d) h in let q = right_true (a && b) (c && d) h in
-    ((le_of (pos 1) i (left_true a b p), le_of i (pos n) (right_true a b p)), (le_of (neg_ℤ (pos 1000000)) k (left_true c d q), le_of k (pos 1000000) (right_true c d q))))
-    (λ h. both_of (a && b) (c && d) (both_of a b (le_to (pos 1) i h.0.0) (le_to i (pos n) h.0.1)) (both_of c d (le_to (neg_ℤ (pos 1000000)) k h.1.0) (le_to k (pos 1000000) h.1.1)))
+    ((int_le_is (pos 1) i (left_true a b p), int_le_is i (pos n) (right_true a b p)), (int_le_is (neg_ℤ (pos 1000000)) k (left_true c d q), int_le_is k (pos 1000000) (right_true c d q))))
+    (λ h. both_are (a && b) (c && d) (both_are a b (int_le_true (pos 1) i h.0.0) (int_le_true i (pos n) h.0.1)) (both_are c d (int_le_true (neg_ℤ (pos 1000000)) k h.1.0) (int_le_true k (pos 1000000) h.1.1)))
 
 ranged_plain : (n : ℕ) (i : Option ℤ) → Ranged (IsVariable n i) (variable_power n i (pos 1))
 ranged_plain n i =
@@ -119,8 +111,8 @@ ranged_valued P n v (Some k) p =
     let a = int_le (pos 0) k in
     let b = int_le k (pos 16) in
     ranged_test (P × IsBetween (pos 0) (pos 16) (Some k)) (a && b) _
-    (λ h. ranged_bind P (IsBetween (pos 0) (pos 16) (Some k)) v _ (le_of (pos 0) k (left_true a b h), le_of k (pos 16) (right_true a b h)) p (λ f. sized_raised n f _))
-    (λ h. both_of a b (le_to (pos 0) k h.1.0) (le_to k (pos 16) h.1.1))
+    (λ h. ranged_bind P (IsBetween (pos 0) (pos 16) (Some k)) v _ (int_le_is (pos 0) k (left_true a b h), int_le_is k (pos 16) (right_true a b h)) p (λ f. sized_raised n f _))
+    (λ h. both_are a b (int_le_true (pos 0) k h.1.0) (int_le_true k (pos 16) h.1.1))
 
 within_if : (P : Type 0) (b : Bool) (f : List Monomial) → P → Ranged P (if b then Ok f else Err Bound)
 within_if P true f p = p

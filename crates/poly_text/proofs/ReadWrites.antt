@@ -63,14 +63,6 @@ place_of (behind_caret u a) = Caret
 place_of (behind_minus u a) = Negative
 place_of (behind_power u a minus z) = Raised
 
-abbrev open_of : Spot → Unclosed
-open_of beginning = nothing
-open_of (awaiting u) = u
-open_of (behind_atom u a) = u
-open_of (behind_caret u a) = u
-open_of (behind_minus u a) = u
-open_of (behind_power u a minus z) = u
-
 abbrev with_factor : Option Term → Factor → Term
 with_factor None f = one_factor f
 with_factor (Some t) f = product t f
@@ -110,7 +102,7 @@ record Grown (outer : List Unclosed) (t : Spot) (x : Symbol) (s : State) : Type 
   place : s.place ≡ place_of spot
   symbols : written_outer around ++ written_spot spot ≡ (written_outer outer ++ written_spot t) ++ x ∷ []
 
-abbrev state : List Part → Part → Place → Base → State
+abbrev pub state : List Part → Part → Place → Base → State
 state outer p place b = record { outer = outer; part = p; place = place; base = b }
 
 abbrev got : State → Option State

@@ -2,6 +2,7 @@
 use Rattle.std.proofs.Common.{◌≡◌, ℕ, suc, zero, ◌<◌, ◌≤◌, ◌==◌, Bool, true, false, List, [], ◌∷◌, ◌++◌, length, drop, take, get_or, ℤ, Ok, Err, Option, Some, None, refl, sym, ap, ap₂, subst, ◌∙◌, append_assoc, append-nil, arith, if◌then◌else◌, length-drop}
 use Rattle.std.proofs.lemmas.List.Sums.{position_or_len_is}
 use Rattle.std.specs.Char.{is_ascii_digit}
+use Rattle.wide_int.proofs.Bools.{by_test}
 use Rattle.poly_text.specs.declared.symbols.Symbol.TheVariants.{Digits}
 use Rattle.poly_text.specs.declared.fault.Kind.TheVariants.{Grammar}
 use Rattle.support_text.specs.Faults.{Reading}
@@ -86,10 +87,6 @@ no_digits : (b : ℕ) (bs : List ℕ) → is_ascii_digit b ≡ false → digit_c
 unfolding digit_count
 no_digits b bs h = rw h refl
 
-by_test : {P : Type 0} (t : Bool) → (t ≡ true → P) → (t ≡ false → P) → P
-by_test true f g = f refl
-by_test false f g = g refl
-
 digits_found : (b : ℕ) (bs : List ℕ) → is_ascii_digit b ≡ true → first_symbol (b ∷ bs) ≡ Some (Digits (value_of_digits (take (digit_count (b ∷ bs)) (b ∷ bs))), digit_count (b ∷ bs))
 unfolding first_symbol
 digits_found b bs h = rw h refl
@@ -159,7 +156,7 @@ pub line_bad : (o : Option (List Symbol)) (line : ℕ) → prefixed [] o ≡ Non
 line_bad None line h = refl
 line_bad (Some ss) line h = absurd cc
 
-abbrev good : List Symbol → Option (List Symbol)
+abbrev pub good : List Symbol → Option (List Symbol)
 good ss = Some ss
 
 same_symbols : (ss ts : List Symbol) → good ss ≡ good ts → ss ≡ ts

@@ -4,7 +4,7 @@ use Rattle.line_text.specs.Lines.{Row, lines_of, end_line_of}
 use Rattle.support_text.specs.declared.fault.FormatFault.{FormatFault}
 use Rattle.support_text.specs.Faults.{Reading, ◌>>=◌, series}
 use Rattle.support_text.specs.Words.{Text, words}
-use Rattle.support_text.proofs.Series.{bind_ok, ok_is}
+use Rattle.support_text.proofs.Series.{bind_ok, ok_is, failed, err_is}
 use Rattle.poly_text.specs.declared.causes.Cause.TheVariants.{Range as Past_range, Bound as Past_bound}
 use Rattle.poly_text.specs.declared.fault.Kind.{Kind}
 use Rattle.poly_text.specs.declared.fault.Kind.TheVariants.{System, Grammar, Range, Bound, Empty, Missing, Extra}
@@ -24,12 +24,7 @@ use Rattle.poly_text.proofs.ReadWrites.{read_writes, one_value}
 use Rattle.poly_text.proofs.TreeValues.{Means, means_polynomial}
 use Rattle.poly_text.proofs.Supports.{support_is}
 use Rattle.poly_text.proofs.Ranges.{Ranged, ranged_polynomial}
-
-abbrev failed : {A : Type 0} → FormatFault → Reading A
-failed e = Err e
-
-err_is : {A : Type 0} (d e : FormatFault) → failed {A = A} d ≡ failed e → d ≡ e
-err_is d e h = cc
+use Rattle.poly_text.proofs.SymbolWords.{good}
 
 -- the fault of two steps is that of the first, or the first is done and it is that of the second
 bind_err : {A B : Type 0} (r : Reading A) (f : A → Reading B) (e : FormatFault) → (r >>= f) ≡ Err e → (r ≡ Err e) ⊎ ((x : A) × (r ≡ Ok x) × (f x ≡ Err e))
@@ -48,9 +43,6 @@ tree_of n symbols v e =
 abbrev pub Told : ℕ → ℕ → List Text → Reading (List (List ℤ)) → Type 0
 Told n line ws (Ok points) = IsPolynomial n ws points
 Told n line ws (Err f) = (kind : Kind) × IsWrong n ws kind × (f ≡ fault line kind)
-
-abbrev some_symbols : List Symbol → Option (List Symbol)
-some_symbols xs = Some xs
 
 pub not_past_range : (n : ℕ) (p : Polynomial) (v : Verdict (List Monomial)) → meaning n 0 p ≡ v → Ranged (InRange n p) v
 not_past_range n p v e = subst (Ranged (InRange n p)) e (ranged_polynomial p n 0)
@@ -78,10 +70,10 @@ not_read : (n : ℕ) (p : Polynomial) (xs : List Symbol) → read_from n xs (beg
 not_read n p xs e w = let a = written_reads n p in let b = ap (λ (l : List Symbol). read_from n l (begun n)) w in absurd cc
 
 read_told : (n line : ℕ) (ws : List Text) (xs : List Symbol) (o : Option (Verdict (List Monomial))) → symbols_of ws ≡ Some xs → read_from n xs (begun n) ≡ o → Told n line ws (support_in line o)
-read_told n line ws xs None s e = (Grammar, (λ p w. let a : some_symbols (written p) ≡ some_symbols xs = sym w ∙ s in not_read n p xs e (cc)), refl)
+read_told n line ws xs None s e = (Grammar, (λ p w. let a : good (written p) ≡ good xs = sym w ∙ s in not_read n p xs e (cc)), refl)
 read_told n line ws xs (Some v) s e =
     let q = tree_of n xs v e in
-    value_told n line ws q.0 v (s ∙ ap some_symbols (sym q.1)) q.2
+    value_told n line ws q.0 v (s ∙ ap good (sym q.1)) q.2
 
 symbols_told : (n line : ℕ) (ws : List Text) (o : Option (List Symbol)) → symbols_of ws ≡ o → Told n line ws (symbols_in line o >>= λ symbols. support_in line (read_from n symbols (begun n)))
 symbols_told n line ws None s = (Grammar, (λ p w. absurd cc), refl)

@@ -19,9 +19,6 @@ good f = Ok f
 term_yes : (a b c : Bool) (f : List Monomial) → a ≡ true → b ≡ true → c ≡ true → (if a && (b && c) then good f else bad) ≡ good f
 term_yes a b c f p q r = rw (p, q, r) refl
 
-term_no : (a b c : Bool) (f : List Monomial) → (a && (b && c)) ≡ false → (if a && (b && c) then good f else bad) ≡ bad
-term_no a b c f p = rw p refl
-
 pub no_exponents : (f : List Monomial) (t : Monomial) → list_all fits t.0 ≡ false → with_term f t ≡ Err Bound
 unfolding with_term
 no_exponents f t h = rw h refl
@@ -38,23 +35,6 @@ sum_decides true f g xs z h e a = term_yes (list_all fits xs) (fits z) (fits (co
 sum_decides false f g xs z h e a = rw (h, e, a) refl
 
 -- ---- lists of terms
-
-pub first_of_terms : (f : List Monomial) (t : Monomial) (ts : List Monomial) (g : List Monomial) → with_term f t ≡ Ok g → collected f (t ∷ ts) ≡ collected g ts
-unfolding collected
-first_of_terms f t ts g h = rw h refl
-
-pub first_fails : (f : List Monomial) (t : Monomial) (ts : List Monomial) → with_term f t ≡ Err Bound → collected f (t ∷ ts) ≡ Err Bound
-unfolding collected
-first_fails f t ts h = rw h refl
-
-pub collected_nil : (f : List Monomial) → collected f [] ≡ Ok f
-unfolding collected
-collected_nil f = refl
-
-bind_assoc : {A B C : Type 0} (v : Verdict A) (f : A → Verdict B) (g : B → Verdict C) → ((v >>= f) >>= g) ≡ (v >>= λ x. f x >>= g)
-bind_assoc (Ok x) f g = refl
-bind_assoc (Err c) f g = refl
-
 append_after : (v : Verdict (List Monomial)) (ts us : List Monomial) → ((g : List Monomial) → collected g (ts ++ us) ≡ (collected g ts >>= λ h. collected h us))
     → (v >>= λ g. collected g (ts ++ us)) ≡ ((v >>= λ g. collected g ts) >>= λ g. collected g us)
 append_after (Ok g) ts us r = r g
@@ -99,10 +79,6 @@ one_more (Err c) = refl
 pub row_of_one : (f : List Monomial) (t : Monomial) → collected f (t ∷ []) ≡ with_term f t
 unfolding collected
 row_of_one f t = one_more (with_term f t)
-
-pub rows_of_one : {A : Type 0} (φ : A → Monomial) (xs : List A) → flat_map (λ x. φ x ∷ []) xs ≡ map φ xs
-rows_of_one φ [] = refl
-rows_of_one φ (x ∷ xs) = ap (λ (l : List Monomial). φ x ∷ l) (rows_of_one φ xs)
 
 -- ---- whole sums, products and powers
 

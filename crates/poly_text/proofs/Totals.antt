@@ -16,10 +16,7 @@ use Rattle.int_vectors.specs.Vectors.{Each}
 use Rattle.poly_text.specs.Maps.{Monomial, exponents_cmp, coefficient, with_coefficient, plus_term}
 use Rattle.poly_text.specs.Values.{are_same, number_at, total_at}
 
-abbrev R : List ℤ → List ℤ → Ordering
-R xs ys = exponents_cmp xs ys
-
-o : IsTotalOrder R
+o : IsTotalOrder exponents_cmp
 o = lists_total int_cmp_total
 
 abbrev pub Sorted : List Monomial → Type 0
@@ -27,17 +24,17 @@ Sorted f = IsStrictlySortedBy exponents_cmp (keys_of f)
 
 -- ---- orders of two lists
 
-pub less_back : (xs ys : List ℤ) → R xs ys ≡ Less → R ys xs ≡ Greater
+pub less_back : (xs ys : List ℤ) → exponents_cmp xs ys ≡ Less → exponents_cmp ys xs ≡ Greater
 less_back xs ys h = o.antisymm ys xs ∙ ap ordering_reverse h
 
-pub greater_back : (xs ys : List ℤ) → R xs ys ≡ Greater → R ys xs ≡ Less
+pub greater_back : (xs ys : List ℤ) → exponents_cmp xs ys ≡ Greater → exponents_cmp ys xs ≡ Less
 greater_back xs ys h = o.antisymm ys xs ∙ ap ordering_reverse h
 
 -- two lists are the same, or they differ
 pub by_same : {P : Type 0} (xs ys : List ℤ) → (xs ≡ ys → P) → (are_same xs ys ≡ false → P) → P
-by_same {P} xs ys f g = by (R xs ys) refl
+by_same {P} xs ys f g = by (exponents_cmp xs ys) refl
   where
-    by : (r : Ordering) → R xs ys ≡ r → P
+    by : (r : Ordering) → exponents_cmp xs ys ≡ r → P
     by Less h = g (ap is_eq h)
     by Equal h = f (lists_equal xs ys h)
     by Greater h = g (ap is_eq h)
@@ -45,11 +42,8 @@ by_same {P} xs ys f g = by (R xs ys) refl
 pub same_itself : (xs : List ℤ) → are_same xs xs ≡ true
 same_itself xs = ap is_eq (equal_lists xs)
 
-pub not_same_less : (xs ys : List ℤ) → R xs ys ≡ Less → are_same xs ys ≡ false
+pub not_same_less : (xs ys : List ℤ) → exponents_cmp xs ys ≡ Less → are_same xs ys ≡ false
 not_same_less xs ys h = ap is_eq h
-
-pub number_here : (xs : List ℤ) (t : Monomial) → are_same xs t.0 ≡ true → number_at xs t ≡ t.1
-number_here xs t h = rw h refl
 
 pub number_not : (xs : List ℤ) (t : Monomial) → are_same xs t.0 ≡ false → number_at xs t ≡ pos 0
 number_not xs t h = rw h refl
@@ -71,11 +65,11 @@ lookup_none : (xs : List ℤ) (f : List Monomial) → NotIn xs (keys_of f) → c
 lookup_none xs [] h = refl
 lookup_none xs (t ∷ ts) h = rw h.0 (lookup_none xs ts h.1)
 
-below_all : (xs k : List ℤ) (ks : List (List ℤ)) → R xs k ≡ Less → AllByRecursion (λ y. R k y ≡ Less) ks → NotIn xs ks
+below_all : (xs k : List ℤ) (ks : List (List ℤ)) → exponents_cmp xs k ≡ Less → AllByRecursion (λ y. exponents_cmp k y ≡ Less) ks → NotIn xs ks
 below_all xs k [] h a = tt
 below_all xs k (y ∷ ks) h a = (not_same_less xs y (o.trans xs k y h a.0), below_all xs k ks h a.1)
 
-same_all : (k : List ℤ) (ks : List (List ℤ)) → AllByRecursion (λ y. R k y ≡ Less) ks → NotIn k ks
+same_all : (k : List ℤ) (ks : List (List ℤ)) → AllByRecursion (λ y. exponents_cmp k y ≡ Less) ks → NotIn k ks
 same_all k [] a = tt
 same_all k (y ∷ ks) a = (not_same_less k y a.0, same_all k ks a.1)
 
@@ -84,9 +78,9 @@ same_all k (y ∷ ks) a = (not_same_less k y a.0, same_all k ks a.1)
 pub coefficient_total : (xs : List ℤ) (f : List Monomial) → Sorted f → coefficient xs f ≡ total_at xs f
 unfolding total_at
 coefficient_total xs [] s = refl
-coefficient_total xs (t ∷ ts) s = by (R xs t.0) refl (coefficient_total xs ts (sorted_tail exponents_cmp t.0 (keys_of ts) s))
+coefficient_total xs (t ∷ ts) s = by (exponents_cmp xs t.0) refl (coefficient_total xs ts (sorted_tail exponents_cmp t.0 (keys_of ts) s))
   where
-    by : (r : Ordering) → R xs t.0 ≡ r → coefficient xs ts ≡ total_at xs ts → coefficient xs (t ∷ ts) ≡ total_at xs (t ∷ ts)
+    by : (r : Ordering) → exponents_cmp xs t.0 ≡ r → coefficient xs ts ≡ total_at xs ts → coefficient xs (t ∷ ts) ≡ total_at xs (t ∷ ts)
     by Less h later =
         let none : NotIn xs (keys_of (t ∷ ts)) = (not_same_less xs t.0 h, below_all xs t.0 (keys_of ts) h (sorted_head exponents_cmp t.0 (keys_of ts) s)) in
         lookup_none xs (t ∷ ts) none ∙ sym (total_none xs (t ∷ ts) none)
@@ -131,18 +125,18 @@ zero_either false = refl
 apart : (xs k l : List ℤ) → are_same k l ≡ false → are_same xs k ≡ true → are_same xs l ≡ false
 apart xs k l n m = ap (λ (ys : List ℤ). are_same ys l) (same_is xs k m) ∙ n
 
-none_at_same : (xs k : List ℤ) (ks : List (List ℤ)) → AllByRecursion (λ y. R k y ≡ Less) ks → are_same xs k ≡ true → NotIn xs ks
+none_at_same : (xs k : List ℤ) (ks : List (List ℤ)) → AllByRecursion (λ y. exponents_cmp k y ≡ Less) ks → are_same xs k ≡ true → NotIn xs ks
 none_at_same xs k ks a m = subst (λ (ys : List ℤ). NotIn ys ks) (sym (same_is xs k m)) (same_all k ks a)
 
 pub total_insert : (xs k : List ℤ) (z : ℤ) (f : List Monomial) → Sorted f → total_at xs (insert_entry exponents_cmp f k z) ≡ (if are_same xs k then z else total_at xs f)
 unfolding total_at
 total_insert xs k z [] s = put_first (are_same xs k) z (pos 0) (pos 0) (λ m. refl) refl
-total_insert xs k z (t ∷ ts) s = by (R k t.0) refl (total_insert xs k z ts (sorted_tail exponents_cmp t.0 (keys_of ts) s))
+total_insert xs k z (t ∷ ts) s = by (exponents_cmp k t.0) refl (total_insert xs k z ts (sorted_tail exponents_cmp t.0 (keys_of ts) s))
   where
-    head : AllByRecursion (λ y. R t.0 y ≡ Less) (keys_of ts)
+    head : AllByRecursion (λ y. exponents_cmp t.0 y ≡ Less) (keys_of ts)
     head = sorted_head exponents_cmp t.0 (keys_of ts) s
 
-    by : (r : Ordering) → R k t.0 ≡ r → total_at xs (insert_entry exponents_cmp ts k z) ≡ (if are_same xs k then z else total_at xs ts)
+    by : (r : Ordering) → exponents_cmp k t.0 ≡ r → total_at xs (insert_entry exponents_cmp ts k z) ≡ (if are_same xs k then z else total_at xs ts)
         → total_at xs (match_ordering r ((k, z) ∷ t ∷ ts) ((t.0, z) ∷ ts) (t ∷ insert_entry exponents_cmp ts k z)) ≡ (if are_same xs k then z else total_at xs (t ∷ ts))
     by Less h later =
         put_first (are_same xs k) z (total_at xs (t ∷ ts)) (total_at xs (t ∷ ts))
@@ -158,9 +152,9 @@ total_insert xs k z (t ∷ ts) s = by (R k t.0) refl (total_insert xs k z ts (so
 pub total_remove : (xs k : List ℤ) (f : List Monomial) → Sorted f → total_at xs (remove_entry (is_at (exponents_cmp k)) f) ≡ (if are_same xs k then pos 0 else total_at xs f)
 unfolding total_at
 total_remove xs k [] s = zero_either (are_same xs k)
-total_remove xs k (t ∷ ts) s = by (R k t.0) refl (total_remove xs k ts (sorted_tail exponents_cmp t.0 (keys_of ts) s))
+total_remove xs k (t ∷ ts) s = by (exponents_cmp k t.0) refl (total_remove xs k ts (sorted_tail exponents_cmp t.0 (keys_of ts) s))
   where
-    head : AllByRecursion (λ y. R t.0 y ≡ Less) (keys_of ts)
+    head : AllByRecursion (λ y. exponents_cmp t.0 y ≡ Less) (keys_of ts)
     head = sorted_head exponents_cmp t.0 (keys_of ts) s
 
     kept : are_same k t.0 ≡ false → total_at xs (remove_entry (is_at (exponents_cmp k)) ts) ≡ (if are_same xs k then pos 0 else total_at xs ts)
@@ -169,7 +163,7 @@ total_remove xs k (t ∷ ts) s = by (R k t.0) refl (total_remove xs k ts (sorted
         put_later (are_same xs t.0) (are_same xs k) t.1 (pos 0) (total_at xs ts) (total_at xs (remove_entry (is_at (exponents_cmp k)) ts)) (apart xs k t.0 n)
         later
 
-    by : (r : Ordering) → R k t.0 ≡ r → total_at xs (remove_entry (is_at (exponents_cmp k)) ts) ≡ (if are_same xs k then pos 0 else total_at xs ts)
+    by : (r : Ordering) → exponents_cmp k t.0 ≡ r → total_at xs (remove_entry (is_at (exponents_cmp k)) ts) ≡ (if are_same xs k then pos 0 else total_at xs ts)
         → total_at xs (cond (is_eq r) ts (t ∷ remove_entry (is_at (exponents_cmp k)) ts)) ≡ (if are_same xs k then pos 0 else total_at xs (t ∷ ts))
     by Less h later = kept (ap is_eq h) later
     by Equal h later =
@@ -183,35 +177,35 @@ total_remove xs k (t ∷ ts) s = by (R k t.0) refl (total_remove xs k ts (sorted
 abbrev pub HasNumbers : List Monomial → Type 0
 HasNumbers f = Each f (λ (t : Monomial). t.1 ≢ pos 0)
 
-above_insert : (x k : List ℤ) (z : ℤ) (f : List Monomial) → R x k ≡ Less → AllByRecursion (λ y. R x y ≡ Less) (keys_of f) → AllByRecursion (λ y. R x y ≡ Less) (keys_of (insert_entry exponents_cmp f k z))
+above_insert : (x k : List ℤ) (z : ℤ) (f : List Monomial) → exponents_cmp x k ≡ Less → AllByRecursion (λ y. exponents_cmp x y ≡ Less) (keys_of f) → AllByRecursion (λ y. exponents_cmp x y ≡ Less) (keys_of (insert_entry exponents_cmp f k z))
 above_insert x k z [] h a = (h, tt)
-above_insert x k z (t ∷ ts) h a = by (R k t.0) (above_insert x k z ts h a.1)
+above_insert x k z (t ∷ ts) h a = by (exponents_cmp k t.0) (above_insert x k z ts h a.1)
   where
-    by : (r : Ordering) → AllByRecursion (λ y. R x y ≡ Less) (keys_of (insert_entry exponents_cmp ts k z))
-        → AllByRecursion (λ y. R x y ≡ Less) (keys_of (match_ordering r ((k, z) ∷ t ∷ ts) ((t.0, z) ∷ ts) (t ∷ insert_entry exponents_cmp ts k z)))
+    by : (r : Ordering) → AllByRecursion (λ y. exponents_cmp x y ≡ Less) (keys_of (insert_entry exponents_cmp ts k z))
+        → AllByRecursion (λ y. exponents_cmp x y ≡ Less) (keys_of (match_ordering r ((k, z) ∷ t ∷ ts) ((t.0, z) ∷ ts) (t ∷ insert_entry exponents_cmp ts k z)))
     by Less later = (h, a)
     by Equal later = a
     by Greater later = (a.0, later)
 
-above_remove : (x k : List ℤ) (f : List Monomial) → AllByRecursion (λ y. R x y ≡ Less) (keys_of f) → AllByRecursion (λ y. R x y ≡ Less) (keys_of (remove_entry (is_at (exponents_cmp k)) f))
+above_remove : (x k : List ℤ) (f : List Monomial) → AllByRecursion (λ y. exponents_cmp x y ≡ Less) (keys_of f) → AllByRecursion (λ y. exponents_cmp x y ≡ Less) (keys_of (remove_entry (is_at (exponents_cmp k)) f))
 above_remove x k [] a = tt
 above_remove x k (t ∷ ts) a = by (is_at (exponents_cmp k) t.0) (above_remove x k ts a.1)
   where
-    by : (b : Bool) → AllByRecursion (λ y. R x y ≡ Less) (keys_of (remove_entry (is_at (exponents_cmp k)) ts))
-        → AllByRecursion (λ y. R x y ≡ Less) (keys_of (cond b ts (t ∷ remove_entry (is_at (exponents_cmp k)) ts)))
+    by : (b : Bool) → AllByRecursion (λ y. exponents_cmp x y ≡ Less) (keys_of (remove_entry (is_at (exponents_cmp k)) ts))
+        → AllByRecursion (λ y. exponents_cmp x y ≡ Less) (keys_of (cond b ts (t ∷ remove_entry (is_at (exponents_cmp k)) ts)))
     by true later = a.1
     by false later = (a.0, later)
 
-all_above : (k l : List ℤ) (ks : List (List ℤ)) → R k l ≡ Less → AllByRecursion (λ y. R l y ≡ Less) ks → AllByRecursion (λ y. R k y ≡ Less) ks
+all_above : (k l : List ℤ) (ks : List (List ℤ)) → exponents_cmp k l ≡ Less → AllByRecursion (λ y. exponents_cmp l y ≡ Less) ks → AllByRecursion (λ y. exponents_cmp k y ≡ Less) ks
 all_above k l [] h a = tt
 all_above k l (y ∷ ks) h a = (o.trans k l y h a.0, all_above k l ks h a.1)
 
 sorted_insert : (k : List ℤ) (z : ℤ) (f : List Monomial) → Sorted f → Sorted (insert_entry exponents_cmp f k z)
 unfolding IsStrictlySortedBy
 sorted_insert k z [] s = (tt, tt)
-sorted_insert k z (t ∷ ts) s = by (R k t.0) refl (sorted_insert k z ts s.1)
+sorted_insert k z (t ∷ ts) s = by (exponents_cmp k t.0) refl (sorted_insert k z ts s.1)
   where
-    by : (r : Ordering) → R k t.0 ≡ r → Sorted (insert_entry exponents_cmp ts k z) → Sorted (match_ordering r ((k, z) ∷ t ∷ ts) ((t.0, z) ∷ ts) (t ∷ insert_entry exponents_cmp ts k z))
+    by : (r : Ordering) → exponents_cmp k t.0 ≡ r → Sorted (insert_entry exponents_cmp ts k z) → Sorted (match_ordering r ((k, z) ∷ t ∷ ts) ((t.0, z) ∷ ts) (t ∷ insert_entry exponents_cmp ts k z))
     by Less h later = ((h, all_above k t.0 (keys_of ts) h s.0), s)
     by Equal h later = s
     by Greater h later = (above_insert t.0 k z ts (greater_back k t.0 h) s.0, later)
@@ -227,7 +221,7 @@ sorted_remove k (t ∷ ts) s = by (is_at (exponents_cmp k) t.0) (sorted_remove k
 
 numbers_insert : (k : List ℤ) (z : ℤ) (f : List Monomial) → z ≢ pos 0 → HasNumbers f → HasNumbers (insert_entry exponents_cmp f k z)
 numbers_insert k z [] n h = (n, tt)
-numbers_insert k z (t ∷ ts) n h = by (R k t.0) (numbers_insert k z ts n h.1)
+numbers_insert k z (t ∷ ts) n h = by (exponents_cmp k t.0) (numbers_insert k z ts n h.1)
   where
     by : (r : Ordering) → HasNumbers (insert_entry exponents_cmp ts k z) → HasNumbers (match_ordering r ((k, z) ∷ t ∷ ts) ((t.0, z) ∷ ts) (t ∷ insert_entry exponents_cmp ts k z))
     by Less later = (n, h)

@@ -10,10 +10,8 @@ use Rattle.poly_text.specs.declared.reading.Base.TheVariants.{Named, Valued}
 use Rattle.poly_text.specs.Maps.{Monomial, constant}
 use Rattle.poly_text.specs.Bounds.{Verdict, multiplied}
 use Rattle.poly_text.specs.Trees.{Polynomial, Term, Factor, Atom, first, more, one_factor, product, plain, power, digits, variable, enclosed, written, written_term, written_factor, written_atom, written_minus, both, number, exponent, base_power, base_value, within, minus_of, meaning, meaning_term, meaning_factor, base}
-use Rattle.poly_text.specs.Steps.{State, new_part, awaits_factor, begun, term_of, closed, step, ended, read_from}
-
-abbrev state : List Part → Part → Place → Base → State
-state outer p place b = record { outer = outer; part = p; place = place; base = b }
+use Rattle.poly_text.specs.Steps.{new_part, awaits_factor, begun, term_of, closed, step, ended, read_from}
+use Rattle.poly_text.proofs.ReadWrites.{state}
 
 abbrev open_part : Verdict (List Monomial) → Bool → Verdict (List Monomial) → Part
 open_part sum minus f = record { sum = sum; minus = minus; product = f }

@@ -1,23 +1,14 @@
 -- spans of rows
 use Rattle.std.proofs.Common.{◌≡◌, ◌≢◌, inl, inr, ℕ, suc, ℤ, pos, ◌*ℤ◌, ◌+ℤ◌, List, [], ◌∷◌, refl, sym, ap, ap₂, ◌∙◌, arith}
-use Rattle.std.proofs.Math.IntN.{+ℤ_idl, +ℤ_idr}
+use Rattle.std.proofs.Math.IntN.{+ℤ_idr}
 use Rattle.std.proofs.lemmas.Int.{ints}
 use Rattle.int_vectors.specs.Vectors.{Each, dot, weigh, add, scale, at, IsOrthogonal}
 use Rattle.wide_int.proofs.Ring.{as_D, Ds, same_D}
 use Rattle.wide_int.proofs.Order.{zero_product}
-use Rattle.int_vectors.proofs.Weighing.{weigh-scale}
+use Rattle.int_vectors.proofs.Weighing.{weigh-scale, weigh-add}
 use Rattle.reduced_rows.specs.Spans.{Spans, InSpan, SameSpan}
 
-weigh-add : {A : Type 0} (cs ds : List ℤ) (xs : List A) (f : A → ℤ) → weigh (add cs ds) xs f ≡ weigh cs xs f +ℤ weigh ds xs f
-weigh-add [] ds xs f = sym (+ℤ_idl _)
-weigh-add (c ∷ cs) [] xs f = sym (ap (λ x. weigh (c ∷ cs) xs f +ℤ x) refl ∙ +ℤ_idr _)
-weigh-add (c ∷ cs) (d ∷ ds) [] f = refl
-weigh-add (c ∷ cs) (d ∷ ds) (x ∷ xs) f = rw (weigh-add cs ds xs f) (step c d (f x) (weigh cs xs f) (weigh ds xs f))
-  where
-    step : (c d p s t : ℤ) → (c +ℤ d) *ℤ p +ℤ (s +ℤ t) ≡ c *ℤ p +ℤ s +ℤ (d *ℤ p +ℤ t)
-    step c d p s t = rw (as_D c, as_D d, as_D p, as_D s, as_D t) (simp Ds (same_D _ _ _ _ (omega arith)))
-
-other_product : (a b : ℤ) → a ≢ pos 0 → b ≢ pos 0 → (a *ℤ b) ≢ pos 0
+pub other_product : (a b : ℤ) → a ≢ pos 0 → b ≢ pos 0 → (a *ℤ b) ≢ pos 0
 other_product a b n m e = elim (zero_product a b e) [ inl z ↦ n z | inr z ↦ m z ]
 
 -- g w = a u + b v

@@ -4,11 +4,12 @@ use Rattle.std.proofs.lemmas.Int.{ints}
 use Rattle.std.proofs.lemmas.List.{length-map}
 use Rattle.wide_int.proofs.Order.{sign_cases, mul_pos_neg_ℤ, zero_product}
 use Rattle.int_vectors.specs.RowSteps.{eliminated, negated, cleaned}
-use Rattle.int_vectors.specs.Vectors.{at, scale}
+use Rattle.int_vectors.specs.Vectors.{at}
 use Rattle.int_vectors.specs.Contents.{content, divided, primitive}
 use Rattle.reduced_rows.specs.Steps.{signed}
 use Rattle.int_vectors.proofs.EntryDivisors.{scale-primitive, primitive_small}
 use Rattle.int_vectors.proofs.TakingOff.{other_case, length-eliminated}
+use Rattle.int_vectors.proofs.Entries.{at-scale}
 use Rattle.reduced_rows.proofs.Picking.{zero_case, zero_or}
 use Rattle.reduced_rows.proofs.CleaningAll.{signed_negative, signed_positive}
 
@@ -19,11 +20,6 @@ at-eliminated p f [] (y ∷ ys) e h = absurd (omega arith)
 at-eliminated p f (x ∷ xs) [] e h = absurd (omega arith)
 at-eliminated p f (x ∷ xs) (y ∷ ys) zero h = refl
 at-eliminated p f (x ∷ xs) (y ∷ ys) (suc e) h = at-eliminated p f xs ys e (omega arith)
-
-pub at-scaled : (g : ℤ) (xs : List ℤ) (e : ℕ) → at (scale g xs) e ≡ g *ℤ at xs e
-at-scaled g [] e = omega (arith, ints)
-at-scaled g (x ∷ xs) zero = refl
-at-scaled g (x ∷ xs) (suc e) = at-scaled g xs e
 
 pub at-negated : (xs : List ℤ) (e : ℕ) → at (negated xs) e ≡ neg_ℤ (at xs e)
 unfolding negated
@@ -49,12 +45,8 @@ primitive_scaled xs = by_content (content xs) refl
     by_content (suc n) h = record {
       by = pos (content xs);
       positive = omega (arith, ints, h);
-      is = λ e. sym (at-scaled (pos (content xs)) (primitive xs) e) ∙ ap (λ r. at r e) (scale-primitive xs);
+      is = λ e. sym (at-scale (pos (content xs)) (primitive xs) e) ∙ ap (λ r. at r e) (scale-primitive xs);
     }
-
-length-times : (g : ℤ) (xs : List ℤ) → length (scale g xs) ≡ length xs
-length-times g [] = refl
-length-times g (x ∷ xs) = ap suc (length-times g xs)
 
 pub length-primitive : (xs : List ℤ) → length (primitive xs) ≡ length xs
 unfolding primitive divided

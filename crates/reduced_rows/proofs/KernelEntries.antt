@@ -3,8 +3,8 @@ use Rattle.std.proofs.Common.{◌≡◌, ℕ, zero, suc, ◌+◌, ◌<◌, ℤ, 
 use Rattle.std.proofs.lemmas.Int.{ints}
 use Rattle.std.proofs.lemmas.List.{take_more}
 use Rattle.wide_int.specs.Whole.{FitsWhole}
-use Rattle.int_vectors.specs.Vectors.{at}
-use Rattle.reduced_rows.specs.Denominators.{share, shares, FitsShares, zeros, kernel_of, FitsKernel, FitsLcm, lcm_from}
+use Rattle.int_vectors.specs.Vectors.{at, zeros}
+use Rattle.reduced_rows.specs.Denominators.{share, shares, FitsShares, kernel_of, FitsKernel, FitsLcm, lcm_from}
 
 shares-append : (k j l : ℕ) (rows : List (List ℤ)) (row : List ℤ) → shares k j l (rows ++ row ∷ []) ≡ shares k j l rows ++ neg_ℤ (share k (j + length rows) l row) ∷ []
 unfolding shares

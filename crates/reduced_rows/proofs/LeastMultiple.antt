@@ -8,7 +8,6 @@ use Rattle.int_vectors.specs.Vectors.{Each, at, scale}
 use Rattle.wide_int.proofs.Ring.{as_D, Ds, same_D}
 use Rattle.int_vectors.specs.Contents.{content, DividesEach}
 use Rattle.wide_int.proofs.CommonDivisors.{gcd_multiple, lcm_least}
-use Rattle.reduced_rows.proofs.Entries.{at-scaled}
 use Rattle.reduced_rows.specs.Denominators.{lcm_from}
 use Rattle.reduced_rows.specs.Spans.{InSpan}
 use Rattle.reduced_rows.specs.Carried.{HaveUnits}
@@ -16,6 +15,7 @@ use Rattle.reduced_rows.specs.Least.{IsTimes, MakeWhole, LeastDen}
 use Rattle.reduced_rows.proofs.Orthogonal.{PivotsDivide}
 use Rattle.reduced_rows.proofs.Carrying.{weigh_by, carried_by, span_carries}
 use Rattle.std.proofs.Math.Nat.{one-dvd}
+use Rattle.int_vectors.proofs.Entries.{at-scale}
 
 -- what divides c times each entry divides c times the gcd
 pub divides_content : (d c : ℕ) (xs : List ℤ) → 0 < c → DividesEach d (scale (pos c) xs) → d ∣ c * content xs
@@ -50,7 +50,7 @@ pub pivot_divides : (p : ℤ) (m off : ℕ) (given : List (List ℤ)) (row : Lis
 pivot_divides p m off given row s one c t =
     let each = divides_entries (unsigned_abs p) (scale (pos m) row) (λ e.
     let k = times_sum p (pos m) (λ i. at row (off + i)) given (λ g. at g e) t in
-    let v = k.1 ∙ ap (λ z. pos m *ℤ z) (sym (c e)) ∙ sym (at-scaled (pos m) row e) in
+    let v = k.1 ∙ ap (λ z. pos m *ℤ z) (sym (c e)) ∙ sym (at-scale (pos m) row e) in
     subst (λ n. unsigned_abs p ∣ n) (sym (unsigned_abs-mul p k.0) ∙ ap unsigned_abs v) (dvd-mul_right (unsigned_abs p) (unsigned_abs k.0))) in
     let d = divides_content (unsigned_abs p) m row s each in
     let i : m * 1 ≡ m = omega arith in

@@ -1,12 +1,12 @@
-pub mod Answered
-pub mod Carrying
+mod Answered
+mod Carrying
 pub mod CleaningAll
 pub mod Combinations
 pub mod Entries
 pub mod InverseSums
-pub mod KernelEntries
+mod KernelEntries
 pub mod LeastMultiple
-pub mod Multiples
+mod Multiples
 pub mod Orthogonal
 pub mod Outcome
 pub mod Picking

@@ -7,6 +7,7 @@ use Rattle.wide_int.specs.Divisors.{lcm_of}
 use Rattle.reduced_rows.specs.Denominators.{lcm_from, FitsLcm}
 use Rattle.reduced_rows.specs.Denominators.{HavePivots}
 use Rattle.wide_int.proofs.CommonDivisors.{lcm_positive}
+use Rattle.wide_int.proofs.Signed.{abs_positive}
 
 -- the pivot in its place
 pub pivot_at : (j : ℕ) (rows : List (List ℤ)) (i : ℕ) (d : List ℤ) → i < length rows → HavePivots j rows → (j + i < length (get_or rows i d)) × (pos 0 <ℤ at (get_or rows i d) (j + i))
@@ -62,10 +63,6 @@ lcm_end rows j l le p e f =
     as_pos : (l : ℤ) → pos 0 <ℤ l → l ≡ pos (unsigned_abs l)
     as_pos (pos n) h = refl
     as_pos (negsuc n) h = absurd (omega (arith, ints))
-
-abs_positive : (l : ℤ) → pos 0 <ℤ l → 0 < unsigned_abs l
-abs_positive (pos n) h = omega (arith, ints)
-abs_positive (negsuc n) h = absurd (omega (arith, ints))
 
 pub lcm_result_positive : (l p : ℤ) → pos 0 <ℤ l → pos 0 <ℤ p → pos 0 <ℤ pos (lcm_of (unsigned_abs l) (unsigned_abs p))
 lcm_result_positive l p a b = let h = lcm_positive (unsigned_abs l) (unsigned_abs p) (abs_positive l a) (abs_positive p b) in omega (arith, ints, h)

@@ -4,13 +4,14 @@ use Prim.Native.Nat.{◌∣◌}
 use Rattle.std.proofs.lemmas.Int.{ints}
 use Rattle.std.proofs.lemmas.Nat.Gcd.{dvd_refl, dvd_trans}
 use Rattle.std.proofs.Math.Seq.{get_or-append_seam}
-use Rattle.int_vectors.specs.Vectors.{Each, dot, IsZero, at, IsOrthogonal}
+use Rattle.int_vectors.specs.Vectors.{Each, dot, IsZero, at, IsOrthogonal, zeros}
 use Rattle.wide_int.proofs.Ring.{as_D, Ds, same_D}
 use Rattle.wide_int.proofs.Dividing.{quot_exact}
 use Rattle.wide_int.specs.Divisors.{lcm_of}
-use Rattle.reduced_rows.specs.Denominators.{share, shares, zeros, lcm_from, kernel_of}
+use Rattle.reduced_rows.specs.Denominators.{share, shares, lcm_from, kernel_of}
 use Rattle.reduced_rows.specs.Spans.{IsReduced}
 use Rattle.wide_int.proofs.CommonDivisors.{lcm_positive, lcm_first, lcm_second}
+use Rattle.int_vectors.proofs.Entries.{length-zeros}
 use Rattle.reduced_rows.proofs.Shape.{ZeroBelow}
 use Rattle.reduced_rows.proofs.Picking.{ZeroAt}
 
@@ -61,7 +62,7 @@ pivots_divide j l (row ∷ rows) =
     let p = unsigned_abs (at row j) in
     (dvd_trans p (lcm_second l p) (lcm_grows (suc j) (lcm_of l p) rows), pivots_divide (suc j) (lcm_of l p) rows)
 
-lcm_some : (k j l : ℕ) (rows : List (List ℤ)) → 0 < l → IsReduced k j rows → 0 < lcm_from j l rows
+pub lcm_some : (k j l : ℕ) (rows : List (List ℤ)) → 0 < l → IsReduced k j rows → 0 < lcm_from j l rows
 unfolding lcm_from
 lcm_some k j l [] h r = h
 lcm_some k j l (row ∷ rows) h r = lcm_some k (suc j) _ rows (lcm_positive l (unsigned_abs (at row j)) h (positive_abs (at row j) r.0)) r.2
@@ -93,11 +94,6 @@ pub length-shares : (k j l : ℕ) (rows : List (List ℤ)) → length (shares k 
 unfolding shares
 length-shares k j l [] = refl
 length-shares k j l (row ∷ rows) = ap suc (length-shares k (suc j) l rows)
-
-pub length-zeros : (m : ℕ) → length (zeros m) ≡ m
-unfolding zeros
-length-zeros zero = refl
-length-zeros (suc m) = ap suc (length-zeros m)
 
 -- p (-(f q)) + f l is 0 where p q is l
 pub cancels : (p f q l : ℤ) → p *ℤ q ≡ l → p *ℤ neg_ℤ (f *ℤ q) +ℤ f *ℤ l ≡ pos 0

@@ -5,7 +5,7 @@ use Rattle.std.proofs.lemmas.Int.{ints, unsigned_abs-mul}
 use Rattle.std.proofs.lemmas.List.{length-map}
 use Rattle.std.proofs.lemmas.Nat.Gcd.{le_of_dvd}
 use Rattle.std.proofs.Math.Nat.{mul-dvd-mul_left}
-use Rattle.int_vectors.specs.Vectors.{Each, dot, IsZero, at, scale, IsOrthogonal, Independent}
+use Rattle.int_vectors.specs.Vectors.{Each, dot, at, scale, IsOrthogonal, Independent}
 use Rattle.wide_int.proofs.Order.{zero_product, sign_cases}
 use Rattle.wide_int.specs.Divisors.{gcd_of}
 use Rattle.int_vectors.specs.Contents.{content, primitive, DividesEach}
@@ -15,9 +15,9 @@ use Rattle.reduced_rows.specs.Denominators.{kernel_of}
 use Rattle.reduced_rows.specs.Spans.{InSpan, SameSpan, IsReduced, IsReducedOf, IsKernelOf}
 use Rattle.int_vectors.proofs.EntryDivisors.{content_is, scale-primitive, primitive_small}
 use Rattle.int_vectors.proofs.TakingOff.{other_case}
+use Rattle.int_vectors.proofs.Entries.{zero_below, at-scale}
 use Rattle.reduced_rows.proofs.Picking.{pick_is, pick_left, zero_case, zero_or}
 use Rattle.reduced_rows.proofs.CleaningAll.{signed_negative, signed_positive}
-use Rattle.reduced_rows.proofs.Entries.{at-scaled}
 use Rattle.reduced_rows.proofs.Shape.{IsShaped, shape_step, each_map, each_append}
 use Rattle.reduced_rows.proofs.Run.{steps_next, steps_none, shape_init}
 use Rattle.reduced_rows.proofs.Combinations.{same_trans, same_self, each_weaken, span_orthogonal}
@@ -157,17 +157,13 @@ one_content row j p s = by_content (content row) refl
   where
     by_content : (c : ℕ) → content row ≡ c → content row ≡ 1
     by_content zero e = absurd (
-        let z = sym (ap (λ r. at r j) (scale-primitive row)) ∙ at-scaled (pos (content row)) (primitive row) j ∙ ap (λ n. pos n *ℤ at (primitive row) j) e in
+        let z = sym (ap (λ r. at r j) (scale-primitive row)) ∙ at-scale (pos (content row)) (primitive row) j ∙ ap (λ n. pos n *ℤ at (primitive row) j) e in
         omega (arith, ints, z, p))
     by_content (suc c) e = omega (arith, e, s)
 
 ones : (k j : ℕ) (rows : List (List ℤ)) → IsReduced k j rows → Each rows IsSmall → Each rows (λ row. content row ≡ 1)
 ones k j [] r s = tt
 ones k j (row ∷ rows) r s = (one_content row j r.0 s.0, ones k (suc j) rows r.2 s.1)
-
-is_zero_from : (v : List ℤ) → ((e : ℕ) → e < length v → at v e ≡ pos 0) → IsZero v
-is_zero_from [] h = tt
-is_zero_from (x ∷ v) h = (h 0 (omega arith), is_zero_from v (λ e lt. h (suc e) (omega arith)))
 
 zero_entries : (n j : ℕ) (rows : List (List ℤ)) (v : List ℤ) → length v ≡ n → IsReduced n j rows → IsOrthogonal rows v → (i : ℕ) → i < length rows → at v (j + i) ≡ pos 0
 zero_entries n j [] v l r h i lt = absurd (omega arith)
@@ -182,7 +178,7 @@ zero_entries n j (row ∷ rows) v l r h (suc i) lt =
 independent_from : (n width : ℕ) (given made : List (List ℤ)) → Final n width given made → Independent n given
 independent_from n width given made f v l h =
     let o = orthogonal_to made given v f.span.1 h in
-    is_zero_from v (λ e lt. let c = f.count in let z : 0 + e ≡ e = omega arith in subst (λ i. at v i ≡ pos 0) z (zero_entries n 0 made v l f.reduced o e (omega (arith, l, c))))
+    zero_below v (λ e lt. let c = f.count in let z : 0 + e ≡ e = omega arith in subst (λ i. at v i ≡ pos 0) z (zero_entries n 0 made v l f.reduced o e (omega (arith, l, c))))
 
 -- Ok gives reduced rows, and the rows are independent
 pub reduced_means : (n width : ℕ) (given made : List (List ℤ)) → length given ≡ n → OfLength width given → elimination n given ≡ Ok made → IsReducedOf n given made

@@ -46,7 +46,7 @@ keeps k y row made c e a b =
     step : (p f x z : ℤ) → z ≡ pos 0 → p *ℤ x -ℤ f *ℤ z ≡ p *ℤ x
     step p f x z b = rw b (omega (arith, ints))
 
-next_place : (e k : ℕ) → e < suc k → (e < k) ⊎ (e ≡ k)
+pub next_place : (e k : ℕ) → e < suc k → (e < k) ⊎ (e ≡ k)
 next_place zero zero h = inr refl
 next_place zero (suc k) h = inl (omega arith)
 next_place (suc e) zero h = absurd (omega arith)

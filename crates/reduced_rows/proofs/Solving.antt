@@ -1,11 +1,12 @@
 -- a column beside the reduced ones gives a solution over the lcm of the pivots
 use Rattle.std.proofs.Common.{◌≡◌, ℕ, suc, ◌+◌, ℤ, pos, ◌*ℤ◌, ◌+ℤ◌, int_div, List, [], ◌∷◌, ◌++◌, length, refl, ap, ap₂, ◌∙◌, arith, length-append}
-use Rattle.int_vectors.specs.Vectors.{dot, at, IsOrthogonal}
+use Rattle.int_vectors.specs.Vectors.{dot, at, IsOrthogonal, zeros}
 use Rattle.wide_int.proofs.Dividing.{quot_exact}
-use Rattle.reduced_rows.specs.Denominators.{shares, zeros, lcm_from}
+use Rattle.int_vectors.proofs.Entries.{length-zeros}
+use Rattle.reduced_rows.specs.Denominators.{shares, lcm_from}
 use Rattle.reduced_rows.specs.Spans.{IsReduced, InSpan}
 use Rattle.reduced_rows.specs.Solutions.{ColumnSolves}
-use Rattle.reduced_rows.proofs.Orthogonal.{dot_zeros, dot_last, dot_single, PivotsDivide, pivots_divide, HasShares, has_shares, length-shares, length-zeros, cancels}
+use Rattle.reduced_rows.proofs.Orthogonal.{dot_zeros, dot_last, dot_single, PivotsDivide, pivots_divide, HasShares, has_shares, length-shares, cancels}
 use Rattle.reduced_rows.proofs.Combinations.{each_weaken, span_orthogonal}
 
 dot_tail : (row xs : List ℤ) (d : ℕ) → dot row (xs ++ zeros d) ≡ dot row xs

@@ -24,7 +24,7 @@ each_unmap : (P Q R : List ℤ → Type 0) (f : List ℤ → List ℤ) (rows : L
 each_unmap P Q R f [] h r a = tt
 each_unmap P Q R f (row ∷ rows) h r a = (h row r.0 a.0, each_unmap P Q R f rows h r.1 a.1)
 
-positive_other : (z : ℤ) → pos 0 <ℤ z → z ≢ pos 0
+pub positive_other : (z : ℤ) → pos 0 <ℤ z → z ≢ pos 0
 positive_other z p e = omega (arith, ints, p, e)
 
 one_other : pos 1 ≢ pos 0

@@ -1,10 +1,7 @@
 -- What the refusals for a cell say. Its rows are those of its pairs, and n of their columns hold the differences of coordinates.
 use Rattle.std.specs.Prelude.{◌≡◌, ◌↔◌, ℕ, List, ℤ, Result, Ok, Err}
-use Rattle.int_vectors.specs.Vectors.{Independent}
 use Rattle.reduced_rows.specs.declared.faults.CellFault.{CellFault}
 use Rattle.reduced_rows.specs.declared.faults.CellFault.TheVariants.{Overflow, Dependent, OutOfMemory}
-use Rattle.reduced_rows.specs.declared.faults.FromFault.{FromFault}
-use Rattle.reduced_rows.specs.declared.faults.FromFault.TheVariants as from_fault
 use Rattle.reduced_rows.specs.Steps.{elimination, FitsElimination}
 use Rattle.reduced_rows.specs.Spans.{IsKernelOf}
 
@@ -50,13 +47,3 @@ IsCellDependent (Err OutOfMemory) = ⊥
 -- Overflow exactly where a number that is named doesn't fit
 abbrev pub CellOverflowExactly : {A : Type 0} → Type 0 → Result A CellFault → Type 0
 CellOverflowExactly fits r = IsCellOverflow r ↔ ¬ fits
-
--- Dependent exactly where the elimination and the kernel fit and the rows cut to n columns are dependent
-abbrev pub CellDependentExactly : {A : Type 0} → ℕ → List (List ℤ) → Result A CellFault → Type 0
-CellDependentExactly n rows r = IsCellDependent r ↔ (FitsElimination n rows × ¬ (Independent n rows))
-
--- the answer of a call on rows that were eliminated isn't want of memory
-abbrev pub HasFromAnswer : {A : Type 0} → Result A FromFault → Type 0
-HasFromAnswer (Ok a) = Unit {0}
-HasFromAnswer (Err from_fault.Overflow) = Unit {0}
-HasFromAnswer (Err from_fault.OutOfMemory) = ⊥

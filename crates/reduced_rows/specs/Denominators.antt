@@ -1,8 +1,8 @@
 -- Least common multiples of pivots, and what a column over them gives.
-use Rattle.std.specs.Prelude.{ℕ, zero, suc, ◌<◌, ◌<ℤ◌, List, [], ◌∷◌, ◌++◌, length, ℤ, pos, ◌*ℤ◌, neg_ℤ, unsigned_abs, int_div}
+use Rattle.std.specs.Prelude.{ℕ, suc, ◌<◌, ◌<ℤ◌, List, [], ◌∷◌, ◌++◌, length, ℤ, pos, ◌*ℤ◌, neg_ℤ, unsigned_abs, int_div}
 use Rattle.wide_int.specs.Whole.{FitsWhole}
 use Rattle.wide_int.specs.Divisors.{lcm_of}
-use Rattle.int_vectors.specs.Vectors.{at}
+use Rattle.int_vectors.specs.Vectors.{at, zeros}
 
 -- the rows have a positive pivot, the first of them in column j
 unfoldable pub HavePivots : ℕ → List (List ℤ) → Type 0
@@ -32,11 +32,6 @@ shares k j l (row ∷ rows) = neg_ℤ (share k j l row) ∷ shares k (suc j) l r
 unfoldable pub FitsShares : ℕ → ℕ → ℕ → List (List ℤ) → Type 0
 FitsShares k j l [] = Unit {0}
 FitsShares k j l (row ∷ rows) = FitsWhole (share k j l row) × FitsShares k (suc j) l rows
-
--- n zeros
-unfoldable pub zeros : ℕ → List ℤ
-zeros zero = []
-zeros (suc n) = pos 0 ∷ zeros n
 
 -- the kernel of length k + 1 + m, where the rows done are the first k and column k has no further pivot
 unfoldable pub kernel_of : ℕ → ℕ → List (List ℤ) → List ℤ

@@ -1,8 +1,8 @@
 -- Solutions that the reduced rows give.
 use Rattle.std.specs.Prelude.{◌≡◌, ℕ, zero, suc, ◌<◌, ◌+◌, List, [], ◌∷◌, ◌++◌, length, ℤ, pos, ◌*ℤ◌}
-use Rattle.int_vectors.specs.Vectors.{at, dot, weigh, IsOrthogonal}
+use Rattle.int_vectors.specs.Vectors.{at, dot, weigh, IsOrthogonal, zeros}
 use Rattle.reduced_rows.specs.Carried.{HaveUnits}
-use Rattle.reduced_rows.specs.Denominators.{share, shares, zeros, lcm_from}
+use Rattle.reduced_rows.specs.Denominators.{share, shares, lcm_from}
 use Rattle.reduced_rows.specs.Spans.{IsReducedOf}
 
 -- With den the lcm of the pivots and c = n + d a column beside the first n: the numbers -(r_c (den / p)) of the reduced rows,

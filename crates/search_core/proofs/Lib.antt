@@ -1,3 +1,3 @@
 mod Starting
-pub mod Keeping
+mod Keeping
 mod WorkedThreePoints

@@ -9,9 +9,10 @@ use Rattle.cayley.specs.Cells.{Cell}
 use Rattle.cayley.specs.Shares as shares
 use Rattle.cayley.specs.Shares.{GivesShares, GivesSizes, GivesCosts}
 use Rattle.cayley.proofs.Searching.Counting.{count, count-nil, count-append, count_permutation, permutation_counts}
+use Rattle.cayley.specs.Stored.{cells_of}
 use Rattle.searcher.specs.declared.branches.Branch.{Branch}
 use Rattle.searcher.specs.Branches.{branch_of, branches_of}
-use Rattle.searcher.specs.Searches.{KeepShares, all_shares, cells_of}
+use Rattle.searcher.specs.Searches.{KeepShares, all_shares}
 use Rattle.searcher.proofs.Turns.{found_list}
 use Rattle.search_team.specs.Accounts.{IsBalance}
 

@@ -2,49 +2,42 @@
 use Rattle.std.proofs.Common.{◌≡◌, ◌≢◌, ℕ, zero, suc, ◌+◌, ◌<◌, ◌≤◌, List, [], ◌∷◌, ◌++◌, Option, None, length, map, reverse, take, get_or, set, cond, ◌==◌, false, arith, refl, sym, ap, ap₂, subst, ◌∙◌, append_assoc, append-nil, inl}
 use Rattle.std.specs.Prelude.{IsPermutation, IfSome, Contains}
 use Rattle.std.specs.List.{All, range_with_len}
-use Rattle.std.proofs.lemmas.List.{get_or-map, length-map, reverse-append}
+use Rattle.std.proofs.lemmas.List.{get_or-map, length-map, map-id, reverse-append}
 use Rattle.std.proofs.lemmas.List.FromFn.{get_or-range_with_len, length-range_with_len, map-range_with_len_more}
 use Rattle.std.proofs.lemmas.List.Elements.{All-cons, Contains-append_left, Contains-append_right}
 use Rattle.std.proofs.lemmas.List.Sorted.{IsPermutation-refl, IsPermutation-sym, IsPermutation-trans, IsPermutation-append_right, IsPermutation-append_comm, Contains-permutation}
 use Rattle.std.proofs.lemmas.Bool.Decides.{nat_tests}
 use Rattle.cayley.specs.Problems.{Problem}
+use Rattle.cayley.proofs.OneCell.MovedProblems.{map_push}
 use Rattle.branch_pool.specs.Seats.{PoolData, IsSeatOf, all_taken}
 use Rattle.searcher.specs.declared.branches.Branch.{Branch}
 use Rattle.searcher.specs.declared.expansions.HaltCause.{HaltCause}
 use Rattle.searcher.specs.declared.expansions.HaltCause.TheVariants.{OutOfMemory}
 use Rattle.search_team.specs.declared.jobs.Job.{Job}
-use Rattle.search_team.specs.Accounts.{IsBalance, IsMade}
+use Rattle.search_team.specs.Accounts.{IsMade}
 use Rattle.search_team.specs.Searchers.{IsTold, IsWhole, IsJob, IsFresh, given_to}
 use Rattle.search_team.proofs.Balances.{balance_none, balance_permuted}
 use Rattle.search_team.proofs.Members.{each_member, if_some}
 
 -- ---- lists
-pub map_snoc : {X Y : Type 0} (f : X → Y) (xs : List X) (x : X) → map f (xs ++ x ∷ []) ≡ map f xs ++ f x ∷ []
-map_snoc f [] x = refl
-map_snoc f (y ∷ xs) x = ap (λ l. f y ∷ l) (map_snoc f xs x)
-
 pub map_reverse : {X Y : Type 0} (f : X → Y) (xs : List X) → map f (reverse xs) ≡ reverse (map f xs)
 map_reverse f [] = refl
-map_reverse f (x ∷ xs) = ap (map f) (reverse-append (x ∷ []) xs) ∙ map_snoc f (reverse xs) x ∙ ap (λ l. l ++ f x ∷ []) (map_reverse f xs) ∙ sym (reverse-append (f x ∷ []) (map f xs))
+map_reverse f (x ∷ xs) = ap (map f) (reverse-append (x ∷ []) xs) ∙ map_push f (reverse xs) x ∙ ap (λ l. l ++ f x ∷ []) (map_reverse f xs) ∙ sym (reverse-append (f x ∷ []) (map f xs))
 
 -- a step of a pop and a push, where what was pushed stands reversed
 pub moved_on : {Y : Type 0} (rest xs before : List Y) (y : Y) → xs ≡ rest ++ y ∷ [] → (rest ++ reverse (before ++ y ∷ [])) ≡ xs ++ reverse before
 moved_on rest xs before y e = ap (λ l. rest ++ l) (reverse-append before (y ∷ [])) ∙ sym (append_assoc rest (y ∷ []) (reverse before)) ∙ ap (λ l. l ++ reverse before) (sym e)
 
-pub map_id : (xs : List ℕ) → map (λ k. k) xs ≡ xs
-map_id [] = refl
-map_id (x ∷ xs) = ap (λ l. x ∷ l) (map_id xs)
-
 -- jobs are made of the seats, the last first
 pub popped_seats : {S J : Type 0} (f : J → S) (seats rest : List S) (seat : S) (jobs jobs' : List J) (j : J) (whole : List S) → seats ≡ rest ++ seat ∷ [] → jobs' ≡ jobs ++ j ∷ [] → f j ≡ seat
     → seats ++ reverse (map f jobs) ≡ whole → rest ++ reverse (map f jobs') ≡ whole
 popped_seats f seats rest seat jobs jobs' j whole popped pushed is e =
-    ap (λ l. rest ++ reverse l) (ap (map f) pushed ∙ map_snoc f jobs j ∙ ap (λ x. map f jobs ++ x ∷ []) is) ∙ moved_on rest seats (map f jobs) seat popped ∙ e
+    ap (λ l. rest ++ reverse l) (ap (map f) pushed ∙ map_push f jobs j ∙ ap (λ x. map f jobs ++ x ∷ []) is) ∙ moved_on rest seats (map f jobs) seat popped ∙ e
 
 pub popped_numbers : {J : Type 0} (f : J → ℕ) (n m : ℕ) (jobs jobs' : List J) (j : J) (whole : List ℕ) → m ≡ n + 1 → jobs' ≡ jobs ++ j ∷ [] → f j ≡ n + 1
     → range_with_len 1 m ++ reverse (map f jobs) ≡ whole → range_with_len 1 n ++ reverse (map f jobs') ≡ whole
 popped_numbers f n m jobs jobs' j whole more pushed is e =
-    let popped : range_with_len 1 m ≡ range_with_len 1 n ++ (n + 1) ∷ [] = ap (range_with_len 1) more ∙ sym (map_id (range_with_len 1 (n + 1))) ∙ map-range_with_len_more (λ k. k) 1 n (n + 1) (omega arith) ∙ ap (λ l. l ++ (n + 1) ∷ []) (map_id (range_with_len 1 n)) in
+    let popped : range_with_len 1 m ≡ range_with_len 1 n ++ (n + 1) ∷ [] = ap (range_with_len 1) more ∙ sym (map-id (range_with_len 1 (n + 1))) ∙ map-range_with_len_more (λ k. k) 1 n (n + 1) (omega arith) ∙ ap (λ l. l ++ (n + 1) ∷ []) (map-id (range_with_len 1 n)) in
     popped_seats f (range_with_len 1 m) (range_with_len 1 n) (n + 1) jobs jobs' j whole popped pushed is e
 
 pub maps_same : {X Y : Type 0} (f : X → Y) (xs ys : List X) → length ys ≡ length xs → ((i : ℕ) (d : X) → i < length xs → f (get_or ys i d) ≡ f (get_or xs i d)) → map f ys ≡ map f xs
@@ -78,10 +71,6 @@ number_at number jobs k n d e l =
 pub begun_all : {J : Type 0} (P : J → Type 0) (jobs : List J) (q : J) → 1 ≤ length jobs → P q → ((k : ℕ) (d : J) → suc k < length jobs → P (get_or jobs (suc k) d)) → All P (set jobs 0 q)
 begun_all P [] q l p h = absurd (omega (arith, l))
 begun_all P (j ∷ js) q l p h = All-cons P q js p (λ k d lt. h k d (omega (arith, lt)))
-
-pub begun_numbers : {J : Type 0} (number : J → ℕ) (jobs : List J) (q d : J) → d ≡ get_or jobs 0 d → number q ≡ number d → map number (set jobs 0 q) ≡ map number jobs
-begun_numbers number [] q d v e = refl
-begun_numbers number (j ∷ js) q d v e = ap (λ n. n ∷ map number js) (e ∙ ap number v)
 
 later_test : (n : ℕ) → (suc (suc n) == 1) ≡ false
 later_test n = grind (arith, nat_tests)

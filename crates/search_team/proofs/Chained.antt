@@ -1,11 +1,10 @@
 -- each branch that is left leads back to a given one
-use Rattle.std.proofs.Common.{◌≡◌, ℕ, zero, suc, ◌<◌, List, [], ◌∷◌, ◌++◌, map, min, arith, refl, sym, ap, subst, ◌∙◌, inl, inr, append_assoc, Option}
+use Rattle.std.proofs.Common.{◌≡◌, ℕ, zero, suc, ◌<◌, List, [], ◌∷◌, ◌++◌, map, arith, sym, subst, inl, inr, append_assoc, Option}
 use Rattle.std.specs.Prelude.{IsPermutation, Contains}
 use Rattle.std.proofs.lemmas.List.Elements.{Contains-append_left, Contains-append_right, Contains-append_cases}
 use Rattle.std.proofs.lemmas.List.Sorted.{IsPermutation-refl, IsPermutation-sym, IsPermutation-trans, IsPermutation-append_left, IsPermutation-append_right, IsPermutation-append_comm, Contains-permutation}
 use Rattle.int_vectors.specs.Vectors.{Each}
 use Rattle.cayley.specs.declared.found.FoundCell.{FoundCell}
-use Rattle.cayley.specs.declared.found.TieProof.{TieProof}
 use Rattle.cayley.specs.Problems.{Problem, IsProblem}
 use Rattle.cayley.specs.Cells.{Cell}
 use Rattle.cayley.specs.Parents.{InChain}
@@ -14,23 +13,20 @@ use Rattle.cayley.specs.Shares as shares
 use Rattle.cayley.specs.Shares.{IsLed}
 use Rattle.cayley.proofs.Lists.Each.{each_append, each_weaker}
 use Rattle.cayley.proofs.Searching.Chains.{rank, rank_parent, chain_trans}
-use Rattle.cayley.proofs.Searching.Members.{has_contains, contains_has, has_map, map_has}
-use Rattle.cayley.proofs.Searching.Steps.{led_given, led_child}
+use Rattle.cayley.proofs.Searching.Members.{has_contains, contains_has, map_has}
+use Rattle.cayley.proofs.Searching.Steps.{led_child}
 use Rattle.searcher.specs.declared.branches.Branch.{Branch}
 use Rattle.searcher.specs.declared.expansions.HaltCause.{HaltCause}
 use Rattle.searcher.specs.declared.expansions.HaltCause.TheVariants.{Tie, Overflow, OutOfMemory}
 use Rattle.searcher.specs.Branches.{branch_of, branches_of}
 use Rattle.searcher.specs.Expansions.{ShowsTieAtEnd}
 use Rattle.searcher.specs.Searches.{IsLeft, IsOfLeft}
-use Rattle.search_team.specs.Accounts.{IsBalance, IsMade, IsChildOf}
+use Rattle.searcher.proofs.Turns.{led as led_of}
+use Rattle.search_team.specs.Accounts.{IsMade, IsChildOf}
 use Rattle.search_team.specs.Searchers.{IsWhole, IsDivided}
 use Rattle.search_team.specs.Teams.{IsBehind, IsCauseBehind}
 use Rattle.search_team.proofs.Balances.{balance_permuted, balance_less}
 use Rattle.search_team.proofs.Members.{each_member, member_each, each_made}
-
-led_of : (p : Problem) (given : List Branch) (b : Branch) → IsLeft p given b → IsLed p (branches_of given) (branch_of b)
-led_of p given b (inl c) = led_given p (branches_of given) (branch_of b) (has_map branch_of b given (contains_has given b c))
-led_of p given b (inr h) = h.1
 
 child_left : (p : Problem) (given : List Branch) (a b : Branch) → IsLeft p given a → IsChildOf p a b → IsLeft p given b
 child_left p given a b l child = inr (child.0, led_child p (branches_of given) (branch_of a) (branch_of b) child.1 (led_of p given a l))

@@ -1,5 +1,5 @@
 -- what an expansion gives
-use Rattle.std.proofs.Common.{◌≡◌, ◌≤◌, ℕ, ◌+◌, List, [], ◌∷◌, min, map, arith, refl, sym, ap, inl, inr}
+use Rattle.std.proofs.Common.{◌≡◌, ◌≤◌, ℕ, ◌+◌, List, [], ◌∷◌, min, map, arith, refl, ap, inl, inr}
 use Rattle.std.specs.Prelude.{sum_by}
 use Rattle.std.proofs.lemmas.List.Sums.{sum_by-cons}
 use Rattle.int_vectors.specs.Vectors.{Each}
@@ -8,19 +8,20 @@ use Rattle.cayley.specs.Valid.{IsStillProblem}
 use Rattle.cayley.specs.Cells.{Cell}
 use Rattle.cayley.specs.Parents.{IsParent}
 use Rattle.cayley.specs.Shares as shares
-use Rattle.cayley.specs.Shares.{IsTrueBranch, IsChildren, GivesSizes, GivesCosts, Solved}
+use Rattle.cayley.specs.Shares.{IsTrueBranch, IsChildren, Solved}
 use Rattle.cayley.proofs.Life.Decisions.{dec_of}
-use Rattle.cayley.proofs.Searching.Listing.{Has}
-use Rattle.cayley.proofs.Searching.Members.{has_map}
+use Rattle.cayley.proofs.Searching.Listing.{Has, has-map}
 use Rattle.cayley.proofs.Searching.Shares.{true_of, list_has}
-use Rattle.cayley.proofs.Searching.Steps.{keeps_begin, cost_step, cost_stranger, cost_foreign}
+use Rattle.cayley.proofs.Searching.Steps.{keeps_begin, cost_step, cost_stranger, cost_foreign, each_in}
+use Rattle.cayley.specs.Stored.{cells_of}
+use Rattle.cayley.proofs.Order.Lined.{each_has}
 use Rattle.searcher.specs.declared.branches.Branch.{Branch}
 use Rattle.searcher.specs.declared.expansions.Expansion.{Expansion}
 use Rattle.searcher.specs.declared.expansions.Expansion.TheVariants.{Inner, Target, Endless, Stranger}
 use Rattle.searcher.specs.Branches.{branch_of, branches_of, children_of}
 use Rattle.searcher.specs.Expansions.{IsExpansion}
-use Rattle.searcher.specs.Searches.{KeepShares, cells_of, opened, found_in, top}
-use Rattle.searcher.proofs.Turns.{IsTurn, turn_of, turn_keeps, each_in, in_each}
+use Rattle.searcher.specs.Searches.{KeepShares, opened, found_in, top}
+use Rattle.searcher.proofs.Turns.{IsTurn, turn_of, turn_keeps}
 use Rattle.search_team.specs.Accounts.{CostMore, IsBalance, IsChildOf}
 
 -- so many cells were solved, and the branch costs as many more than its children
@@ -70,9 +71,9 @@ module _ (p : Problem) (still : IsStillProblem p) (b : Branch) (e : Expansion) (
 -- the branches that it opens are children
 child_of : (p : Problem) (b : Branch) (kids : List Branch) → IsChildren p b.cell (branches_of kids) → (k : Branch) → Has k kids → IsChildOf p b k
 child_of p b kids children k h =
-    let there = has_map branch_of k kids h in (
-      in_each (IsTrueBranch p) (branches_of kids) (branch_of k) children.0 there,
-      list_has (λ c. IsParent p b.cell c) (map (λ (x : shares.Branch). x.cell) (branches_of kids)) children.1 k.cell (has_map (λ (x : shares.Branch). x.cell) (branch_of k) (branches_of kids) there),
+    let there = has-map branch_of k kids h in (
+      each_has (IsTrueBranch p) (branches_of kids) (branch_of k) children.0 there,
+      list_has (λ c. IsParent p b.cell c) (map (λ (x : shares.Branch). x.cell) (branches_of kids)) children.1 k.cell (has-map (λ (x : shares.Branch). x.cell) (branch_of k) (branches_of kids) there),
     )
 
 pub opened_children : (p : Problem) (b : Branch) (e : Expansion) → IsExpansion p b e → Each (opened e) (IsChildOf p b)

@@ -1,9 +1,10 @@
 pub mod Balances
-pub mod Members
+mod Members
+mod Ready
 pub mod Expanded
-pub mod Turned
-pub mod Begun
-pub mod Summed
+mod Turned
+mod Begun
+mod Summed
 pub mod Chained
-pub mod Stopped
+mod Stopped
 pub mod Starts

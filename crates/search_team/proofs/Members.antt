@@ -1,27 +1,20 @@
 -- members of lists of branches
-use Rattle.std.proofs.Common.{◌≡◌, ◌≢◌, ◌⊎◌, ℕ, List, [], ◌∷◌, ◌++◌, inl, inr, Option, None, Some, rules}
+use Rattle.std.proofs.Common.{◌≡◌, List, inl, inr, Option, None, Some, rules}
 use Rattle.std.specs.Prelude.{Contains, IfSome, IsSome}
 use Rattle.int_vectors.specs.Vectors.{Each}
 use Rattle.cayley.specs.Problems.{Problem}
 use Rattle.cayley.proofs.Lists.Each.{each_weaker}
 use Rattle.cayley.proofs.Searching.Members.{has_contains, contains_has}
+use Rattle.cayley.proofs.Order.Lined.{each_has}
+use Rattle.cayley.proofs.Searching.Steps.{each_in}
 use Rattle.searcher.specs.declared.branches.Branch.{Branch}
-use Rattle.searcher.proofs.Turns.{each_in, in_each}
 use Rattle.search_team.specs.Accounts.{IsMade}
-
-pub each_left : {A : Type 0} (P : A → Type 0) (xs ys : List A) → Each (xs ++ ys) P → Each xs P
-each_left P [] ys h = tt
-each_left P (x ∷ xs) ys h = (h.0, each_left P xs ys h.1)
-
-pub each_right : {A : Type 0} (P : A → Type 0) (xs ys : List A) → Each (xs ++ ys) P → Each ys P
-each_right P [] ys h = h
-each_right P (x ∷ xs) ys h = each_right P xs ys h.1
 
 pub each_member : {A : Type 0} (P : A → Type 0) (xs : List A) → ((x : A) → Contains xs x → P x) → Each xs P
 each_member P xs f = each_in P xs (λ x h. f x (has_contains xs x h))
 
 pub member_each : {A : Type 0} (P : A → Type 0) (xs : List A) (x : A) → Each xs P → Contains xs x → P x
-member_each P xs x e c = in_each P xs x e (contains_has xs x c)
+member_each P xs x e c = each_has P xs x e (contains_has xs x c)
 
 pub if_some : {X : Type 0} (P Q : X → Type 0) (r : Option X) → ((x : X) → P x → Q x) → IfSome r P → IfSome r Q
 if_some P Q None f h = h
@@ -34,10 +27,6 @@ if_none P (Some x) e = absurd (search (e, rules))
 pub not_some : {X : Type 0} (r : Option X) → r ≡ None → IsSome r → ⊥
 not_some None e h = absurd (search (h, rules))
 not_some (Some x) e h = absurd (search (e, rules))
-
-pub some_there : {X : Type 0} (x : X) (r : Option X) → r ≡ Some x → r ≢ None
-some_there x None e n = absurd (search (e, rules))
-some_there x (Some y) e n = absurd (search (n, rules))
 
 pub made_more : (p : Problem) (firsts firsts' ins ins' : List Branch) → ((b : Branch) → Contains firsts b → Contains firsts' b) → ((b : Branch) → Contains ins b → Contains ins' b)
     → (b : Branch) → IsMade p firsts ins b → IsMade p firsts' ins' b

@@ -1,21 +1,20 @@
 -- a search from the start branch of a path
-use Rattle.std.proofs.Common.{◌≡◌, ◌≤◌, ◌<◌, ℕ, zero, suc, List, [], ◌∷◌, map, length, min, arith, refl, sym, subst, inl, inr}
+use Rattle.std.proofs.Common.{◌≡◌, ◌≤◌, ℕ, zero, suc, List, [], ◌∷◌, length, arith, refl, sym, subst}
 use Rattle.std.specs.Prelude.{Contains}
 use Rattle.int_vectors.specs.Vectors.{Each}
 use Rattle.cayley.specs.declared.found.Begin.TheVariants.{Start}
 use Rattle.cayley.specs.declared.found.FoundCell.{FoundCell}
-use Rattle.cayley.specs.declared.found.TieProof.{TieProof}
-use Rattle.cayley.specs.Problems.{Problem, IsProblem, IsStill}
+use Rattle.cayley.specs.Problems.{Problem, IsStill}
 use Rattle.cayley.specs.Valid.{IsValidProblem}
 use Rattle.cayley.specs.Paths.{start_cell}
 use Rattle.cayley.specs.Cells.{Cell}
 use Rattle.cayley.specs.Parents.{IsParent, InChain, IsInTree}
-use Rattle.cayley.specs.Shares as shares
 use Rattle.cayley.specs.Ties.{IsTieFree}
 use Rattle.cayley.proofs.Searching.Shares.{a_size}
 use Rattle.cayley.proofs.Searching.Steps.{size_some}
 use Rattle.start_system.specs.Started.{start_branch, IsStarted, IsSearched, IsTreeSize}
-use Rattle.start_system.proofs.Started.SearchLaws.{started_form, started_law, form_still}
+use Rattle.start_system.proofs.Path.Still.{form_still}
+use Rattle.start_system.proofs.Started.SearchLaws.{started_form, started_law}
 use Rattle.searcher.specs.declared.branches.Branch.{Branch}
 use Rattle.searcher.specs.declared.expansions.HaltCause.{HaltCause}
 use Rattle.searcher.specs.declared.expansions.HaltCause.TheVariants.{Tie, Overflow, OutOfMemory}
@@ -30,11 +29,11 @@ use Rattle.search_team.specs.PathSearches.{IsWalked, IsHalted}
 pub started_still : (p : Problem) → IsValidProblem p → IsStarted p → IsStill p
 started_still p valid started = form_still p (started_form p valid.shape started)
 
-only : {X : Type 0} (x y : X) → Contains (x ∷ []) y → x ≡ y
+pub only : {X : Type 0} (x y : X) → Contains (x ∷ []) y → x ≡ y
 only x y (zero, l, e) = e
 only x y (suc i, l, e) = absurd (omega (arith, l))
 
-first_in : (P : Cell → Type 0) (cells : List Cell) → ((cell : Cell) → Contains cells cell → P cell) → 1 ≤ length cells → (x : Cell) × P x
+pub first_in : (P : Cell → Type 0) (cells : List Cell) → ((cell : Cell) → Contains cells cell → P cell) → 1 ≤ length cells → (x : Cell) × P x
 first_in P [] f l = absurd (omega (arith, l))
 first_in P (x ∷ cells) f l = (x, f x (0, omega arith, refl))
 

@@ -1,13 +1,14 @@
 -- what a team answers
-use Rattle.std.proofs.Common.{◌≡◌, ◌≢◌, ℕ, ◌+◌, ◌≤◌, List, [], ◌∷◌, ◌++◌, Option, None, Some, Result, Ok, Err, min, length, rules, arith, refl, sym, ap, subst, ◌∙◌, inl, inr, append-nil}
-use Rattle.std.specs.Prelude.{IsPermutation, IfSome, IsSome, Contains, MatchResult, IfOk, IfErr, sum_by}
+use Rattle.std.proofs.Common.{◌≡◌, ℕ, ◌+◌, ◌≤◌, List, [], ◌++◌, Option, None, Some, Result, Ok, Err, min, length, rules, arith, refl, sym, ap, subst, ◌∙◌, append-nil}
+use Rattle.std.specs.Prelude.{IsPermutation, IfSome, Contains, MatchResult, IfOk, IfErr}
 use Rattle.std.proofs.lemmas.List.Elements.{Contains-append_left}
-use Rattle.std.proofs.lemmas.List.Sorted.{IsPermutation-refl, IsPermutation-trans, IsPermutation-append_left, IsPermutation-append_comm, Contains-permutation}
+use Rattle.std.proofs.lemmas.List.Sorted.{IsPermutation-refl, IsPermutation-append_left, IsPermutation-append_comm, Contains-permutation}
 use Rattle.int_vectors.specs.Vectors.{Each}
 use Rattle.cayley.specs.declared.found.FoundCell.{FoundCell}
 use Rattle.cayley.specs.Problems.{Problem, IsProblem}
 use Rattle.cayley.specs.Ties.{IsTieFree}
 use Rattle.cayley.proofs.Lists.Each.{each_append}
+use Rattle.cayley.specs.Stored.{cells_of}
 use Rattle.branch_pool.specs.declared.pool.closing.Unclosed.{Unclosed}
 use Rattle.branch_pool.specs.Seats.{PoolData, SeatData, AreAllSeats, offered_by, taken_by}
 use Rattle.searcher.specs.declared.branches.Branch.{Branch}
@@ -17,16 +18,15 @@ use Rattle.searcher.specs.declared.searching.Found.{Found}
 use Rattle.searcher.specs.declared.searching.Stopped.{Stopped}
 use Rattle.searcher.specs.Workings.{FitsWorking}
 use Rattle.searcher.specs.Expansions.{HasLowestNormal, ShowsTieAtEnd, HasNoTie}
-use Rattle.searcher.specs.Searches.{IsFound, IsStopped, IsLeft, IsOfLeft, FindsShare, FindsSize, KeepShares, NeverFalls, all_shares, cells_of, top}
+use Rattle.searcher.specs.Searches.{IsFound, IsStopped, IsLeft, IsOfLeft, FindsShare, FindsSize, KeepShares, NeverFalls, all_shares, top}
 use Rattle.searcher.proofs.Turns.{left_begin}
 use Rattle.searcher.proofs.Results.{each_sorted, finds_share, finds_size}
-use Rattle.search_team.specs.declared.stopping.Part.{Part}
 use Rattle.search_team.specs.declared.stopping.TeamStopped.{TeamStopped}
 use Rattle.search_team.specs.Accounts.{IsBalance, IsMade}
-use Rattle.search_team.specs.Searchers.{IsTold, IsWhole, IsDivided, given_by}
-use Rattle.search_team.specs.Teams.{all_left, all_found, left_of, IsSharedFound, IsTeamStopped, IsHandedBack}
+use Rattle.search_team.specs.Searchers.{IsWhole, IsDivided, given_by}
+use Rattle.search_team.specs.Teams.{all_left, all_found, left_of, IsSharedFound, IsTeamStopped}
 use Rattle.search_team.proofs.Balances.{balance_permuted, balance_then, shares_then}
-use Rattle.search_team.proofs.Members.{if_some, if_none, not_some, each_made}
+use Rattle.search_team.proofs.Members.{if_none, not_some, each_made}
 use Rattle.search_team.proofs.Summed.{given_back}
 use Rattle.search_team.proofs.Chained.{led_then, cause_behind, tie_shown}
 

@@ -8,7 +8,6 @@ use Rattle.std.proofs.lemmas.List.Folds.{flat_map-map}
 use Rattle.std.proofs.lemmas.List.Elements.{Contains-append_left, Contains-append_right, Contains-append_cases}
 use Rattle.std.proofs.lemmas.List.Sorted.{IsPermutation-refl, IsPermutation-trans, IsPermutation-reverse, IsPermutation-append_left, IsPermutation-append_right, IsPermutation-append_comm}
 use Rattle.cayley.specs.declared.found.FoundCell.{FoundCell}
-use Rattle.cayley.specs.declared.found.TieProof.{TieProof}
 use Rattle.cayley.specs.Problems.{Problem}
 use Rattle.cayley.specs.Cells.{Cell}
 use Rattle.cayley.proofs.Lists.Each.{each_append}
@@ -21,7 +20,7 @@ use Rattle.searcher.specs.Workings.{FitsWorking}
 use Rattle.searcher.specs.Expansions.{HasLowestNormal}
 use Rattle.searcher.specs.Searches.{IsOfLeft, top}
 use Rattle.search_team.specs.declared.stopping.Part.{Part}
-use Rattle.search_team.specs.Accounts.{IsBalance, IsMade}
+use Rattle.search_team.specs.Accounts.{IsMade}
 use Rattle.search_team.specs.Searchers.{IsTold, IsWhole, given_to, given_by}
 use Rattle.search_team.specs.Teams.{all_left, all_found}
 use Rattle.search_team.proofs.Balances.{balance_sum, balance_permuted}
@@ -114,9 +113,6 @@ no_more (x ∷ xs) ys e = absurd (search (e, rules))
 
 pub none_rest : (parts rest : List Part) (part : Part) → parts ≡ rest ++ part ∷ [] → all_left parts ≡ [] → all_left rest ≡ []
 none_rest parts rest part e n = (no_more (all_left rest) part.left.items (sym (left_snoc parts rest part e) ∙ n)).0
-
-pub none_last : (parts rest : List Part) (part : Part) → parts ≡ rest ++ part ∷ [] → all_left parts ≡ [] → part.left.items ≡ []
-none_last parts rest part e n = (no_more (all_left rest) part.left.items (sym (left_snoc parts rest part e) ∙ n)).1
 
 pub moved_found : {X : Type 0} (all cells cells' rest more : List X) → IsPermutation all ((rest ++ more) ++ cells) → cells' ≡ cells ++ more → IsPermutation all (rest ++ cells')
 moved_found all cells cells' rest more p e =

@@ -1,5 +1,5 @@
 -- a turn keeps a job whole
-use Rattle.std.proofs.Common.{◌≡◌, ◌≢◌, ◌≤◌, ℕ, suc, ◌+◌, List, [], ◌∷◌, ◌++◌, Option, None, Some, min, rules, arith, refl, sym, ap, subst, ◌∙◌, inl, inr, append_assoc, append-nil, length}
+use Rattle.std.proofs.Common.{◌≡◌, ◌≤◌, ℕ, suc, ◌+◌, List, [], ◌∷◌, ◌++◌, Option, None, Some, rules, arith, refl, sym, ap, subst, ◌∙◌, inl, inr, append_assoc, append-nil, length}
 use Rattle.std.specs.Prelude.{IsPermutation, IfSome, Contains}
 use Rattle.std.proofs.lemmas.List.Elements.{Contains-append_left}
 use Rattle.std.proofs.lemmas.List.Sorted.{IsPermutation-refl, IsPermutation-trans, IsPermutation-append_right, IsPermutation-append_comm, Contains-permutation}
@@ -10,11 +10,11 @@ use Rattle.cayley.specs.Valid.{IsStillProblem}
 use Rattle.cayley.specs.Shares.{Solved}
 use Rattle.cayley.specs.Ties.{IsTieFree}
 use Rattle.cayley.proofs.Lists.Each.{each_append, each_weaker}
+use Rattle.cayley.proofs.Algebra.RowDependencies.{each-left, each-right}
 use Rattle.branch_pool.specs.Seats.{PoolData, IsSeatOf, all_taken}
 use Rattle.searcher.specs.declared.branches.Branch.{Branch}
 use Rattle.searcher.specs.declared.expansions.Expansion.{Expansion}
 use Rattle.searcher.specs.declared.expansions.HaltCause.{HaltCause}
-use Rattle.searcher.specs.declared.expansions.HaltCause.TheVariants.{OutOfMemory}
 use Rattle.searcher.specs.Branches.{branch_of}
 use Rattle.searcher.specs.Workings.{FitsWorking}
 use Rattle.searcher.specs.Expansions.{IsExpansion, IsCause, HasLowestNormal, ShowsTieAtEnd, HasNoTie}
@@ -25,7 +25,7 @@ use Rattle.search_team.specs.declared.jobs.Job.{Job}
 use Rattle.search_team.specs.Accounts.{IsBalance, IsMade, IsChildOf}
 use Rattle.search_team.specs.Searchers.{IsTold, IsWhole, IsJob, given_to}
 use Rattle.search_team.proofs.Balances.{balance_sum, balance_more, balance_permuted}
-use Rattle.search_team.proofs.Members.{each_left, each_right, made_more, each_made}
+use Rattle.search_team.proofs.Members.{each_made}
 use Rattle.search_team.proofs.Expanded.{expansion_balance, opened_children}
 
 -- one that stands at the end of the first goes to the second
@@ -75,8 +75,8 @@ module _ (p : Problem) (g t t' : List Branch) (b : Branch) (moved : IsPermutatio
         );
         normals = subst (λ l. Each l (HasLowestNormal p)) (sym finds) (turn_normals p b e is found was.normals);
         fit = subst (λ l. Each l (λ (x : FoundCell). FitsWorking p x.cell)) (sym finds) (turn_fit p b e is found was.fit);
-        made = each_left (IsMade p g (g ++ t')) o' hand' all;
-        kept = each_made p g (g ++ t') (g ++ t') (g ++ t') (λ a c. Contains-append_left g t' a c) (λ a c. c) hand' (each_right (IsMade p g (g ++ t')) o' hand' all);
+        made = each-left (IsMade p g (g ++ t')) o' hand' all;
+        kept = each_made p g (g ++ t') (g ++ t') (g ++ t') (λ a c. Contains-append_left g t' a c) (λ a c. c) hand' (each-right (IsMade p g (g ++ t')) o' hand' all);
         calm = calm;
         told = told;
       }

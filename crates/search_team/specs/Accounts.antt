@@ -5,9 +5,10 @@ use Rattle.cayley.specs.Problems.{Problem}
 use Rattle.cayley.specs.Parents.{IsParent}
 use Rattle.cayley.specs.Shares as shares
 use Rattle.cayley.specs.Shares.{IsTrueBranch, GivesSizes, GivesCosts}
+use Rattle.cayley.specs.Stored.{cells_of}
 use Rattle.searcher.specs.declared.branches.Branch.{Branch}
 use Rattle.searcher.specs.Branches.{branch_of, branches_of}
-use Rattle.searcher.specs.Searches.{KeepShares, cells_of}
+use Rattle.searcher.specs.Searches.{KeepShares}
 
 -- the branches that came in cost n solves more than those that went out
 abbrev pub CostMore : Problem → List Branch → List Branch → ℕ → Type 0

@@ -7,13 +7,14 @@ use Rattle.cayley.specs.Parents.{IsInTree}
 use Rattle.cayley.specs.Shares.{IsShare}
 use Rattle.cayley.specs.Ties.{IsTieFree}
 use Rattle.cayley.specs.TieProofs.{IsTieProofAtEnd}
+use Rattle.cayley.specs.Stored.{cells_of}
 use Rattle.start_system.specs.Started.{start_branch, IsTreeSize}
 use Rattle.searcher.specs.declared.expansions.HaltCause.{HaltCause}
 use Rattle.searcher.specs.declared.expansions.HaltCause.TheVariants.{Tie, Overflow, OutOfMemory}
 use Rattle.searcher.specs.declared.searching.Found.{Found}
 use Rattle.searcher.specs.Expansions.{HasLowestNormal}
 use Rattle.searcher.specs.Workings.{FitsWorking}
-use Rattle.searcher.specs.Searches.{cells_of, top}
+use Rattle.searcher.specs.Searches.{top}
 
 -- the count is the size of the path tree, or the greatest count
 abbrev pub CountsTree : Problem → ℕ → Type 0

@@ -8,6 +8,7 @@ use Rattle.cayley.specs.Cells.{Cell, IsOf}
 use Rattle.cayley.specs.Parents.{InChain}
 use Rattle.cayley.specs.Ties.{IsTieFree}
 use Rattle.cayley.specs.TieProofs.{IsTieProofAtEnd}
+use Rattle.cayley.specs.Stored.{cells_of}
 use Rattle.branch_pool.specs.Seats.{AreAllSeats, offered_by, taken_by}
 use Rattle.searcher.specs.declared.branches.Branch.{Branch}
 use Rattle.searcher.specs.declared.expansions.HaltCause.{HaltCause}
@@ -15,7 +16,7 @@ use Rattle.searcher.specs.declared.expansions.HaltCause.TheVariants.{Tie, Overfl
 use Rattle.searcher.specs.declared.searching.Found.{Found}
 use Rattle.searcher.specs.Expansions.{HasLowestNormal, HasNoTie}
 use Rattle.searcher.specs.Workings.{FitsWorking}
-use Rattle.searcher.specs.Searches.{IsFound, KeepShares, IsLeft, IsOfLeft, cells_of}
+use Rattle.searcher.specs.Searches.{IsFound, KeepShares, IsLeft, IsOfLeft}
 use Rattle.search_team.specs.declared.stopping.Part.{Part}
 use Rattle.search_team.specs.declared.stopping.TeamStopped.{TeamStopped}
 use Rattle.search_team.specs.Accounts.{IsMade}

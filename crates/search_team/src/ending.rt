@@ -1,9 +1,10 @@
 //! The end of a team: what its searchers found and left comes together.
+ghost use Rattle.cayley.specs.Stored.{cells_of};
 ghost use Rattle.std.specs.Prelude.{◌≡◌, ◌⊎◌, ◌≤◌, ◌+◌, [], ◌++◌, None, map, reverse, IfOk, IfErr, IfSome, IsPermutation, MatchResult, length, vec_len, vec_capacity};
 ghost use Rattle.std.specs.List.{All, range_with_len};
 ghost use Rattle.cayley.specs.Problems.{IsStill};
 ghost use Rattle.branch_pool.specs.Seats.{IsSeatOf, offered_by, taken_by};
-ghost use Rattle.searcher.specs.Searches.{NeverFalls, cells_of};
+ghost use Rattle.searcher.specs.Searches.{NeverFalls};
 ghost use Rattle.search_team.specs.Searchers.{IsJob, IsWhole, IsDivided, given_by};
 ghost use Rattle.search_team.specs.Teams.{all_left, all_found, IsSharedFound, IsTeamStopped};
 

@@ -10,6 +10,7 @@ mod steps;
 mod stopping;
 mod team;
 mod turning;
+mod walkers;
 
 pub use paths::search_together;
 pub use stopping::{Part, TeamStopped};

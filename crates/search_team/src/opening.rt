@@ -5,6 +5,9 @@ ghost use Rattle.cayley.specs.Problems.{IsStill};
 ghost use Rattle.branch_pool.specs.declared.rule.TheConstants.{SEATS};
 ghost use Rattle.branch_pool.specs.Seats.{IsSeatOf, all_taken, fresh_seats};
 ghost use Rattle.search_team.specs.Searchers.{IsFresh, IsJob};
+ghost use Rattle.search_team.specs.Walkers.{IsReady};
+ghost use Rattle.int_vectors.specs.Vectors.{Each};
+ghost use Rattle.cayley.specs.declared.found.Begin.TheVariants.{Start};
 
 use crate::jobs::Job;
 use crate::stopping::Part;
@@ -104,6 +107,7 @@ pub fn begun(
     requires numbers { (1 ≤ length jobs.old.items) × (map (λ j. j.number) jobs.old.items ≡ range_with_len 1 (length pool.now.deques)) }
     requires fresh { All (IsFresh pool.now) jobs.old.items }
     ensures jobs { All (IsJob problem.now pool.now given.now.value.items) jobs.new.items }
+    ensures ready { All (λ b. b.begin ≡ Start) branches.items → All (λ j. Each j.seat.offered (IsReady problem.now)) jobs.new.items }
     ensures numbers { map (λ j. j.number) jobs.new.items ≡ map (λ j. j.number) jobs.old.items }
 {
     offered(pool, &mut jobs[0], branches);

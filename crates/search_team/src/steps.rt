@@ -8,10 +8,11 @@ ghost use Rattle.searcher.specs.Branches.{branch_of};
 ghost use Rattle.searcher.specs.Expansions.{IsExpansion, IsHalt, ShowsTieAtEnd, HasNoTie};
 ghost use Rattle.searcher.specs.Workings.{FitsWorking};
 ghost use Rattle.searcher.specs.Searches.{IsFound, IsStopped, top};
+ghost use Rattle.searcher.specs.Walks.{IsMade, IsWalk};
 
 use cayley::Problem;
 use cone_walls::Steps;
-use searcher::{Branch, Expansion, Found, Halt, Stopped, expand, search_alone};
+use searcher::{Branch, Expansion, Found, Halt, Stopped, Walk, expand, search_alone};
 use std::alloc::Global;
 use std::marker::Brand;
 use std::sync::ledger::{Blank, Ledger};
@@ -40,6 +41,44 @@ pub fn expand_once(alloc: Global, problem: &Problem, branch: Branch) -> Result<E
     ensures untied { IsTieFree problem.now → IfErr result (λ halt. HasNoTie halt.cause) }
 {
     expand_by::<Brand>(alloc, problem, branch, Blank::new(1))
+}
+
+fn expand_made_by<L: Ledger>(
+    alloc: Global,
+    problem: &Problem,
+    walk: &mut Walk,
+    branch: Branch,
+    blank: Blank,
+) -> Result<Expansion, Halt>
+    requires ledger { (blank.name ≡ L.name) × (blank.parts ≡ L.parts) × (0 < blank.parts) }
+    requires still { IsStill problem.now }
+    requires walk { IsWalk problem.now walk.old }
+    requires made { IsMade problem.now branch }
+    ensures walk { IsWalk problem.now walk.new }
+    ensures answer { MatchResult result (IsExpansion problem.now branch) (IsHalt problem.now branch) }
+    ensures tie { IfErr result (λ halt. ShowsTieAtEnd problem.now halt.cause) }
+    ensures untied { IsTieFree problem.now → IfErr result (λ halt. HasNoTie halt.cause) }
+{
+    let mut steps = Steps::<L>::new(blank);
+    walk.expand_made(alloc, problem, branch, &mut steps)
+}
+
+/// The same of a branch that an expansion of this team opened, by a searcher's walk.
+pub fn expand_made_once(
+    alloc: Global,
+    problem: &Problem,
+    walk: &mut Walk,
+    branch: Branch,
+) -> Result<Expansion, Halt>
+    requires still { IsStill problem.now }
+    requires walk { IsWalk problem.now walk.old }
+    requires made { IsMade problem.now branch }
+    ensures walk { IsWalk problem.now walk.new }
+    ensures answer { MatchResult result (IsExpansion problem.now branch) (IsHalt problem.now branch) }
+    ensures tie { IfErr result (λ halt. ShowsTieAtEnd problem.now halt.cause) }
+    ensures untied { IsTieFree problem.now → IfErr result (λ halt. HasNoTie halt.cause) }
+{
+    expand_made_by::<Brand>(alloc, problem, walk, branch, Blank::new(1))
 }
 
 fn search_by<L: Ledger>(

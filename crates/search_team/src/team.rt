@@ -10,6 +10,7 @@ ghost use Rattle.searcher.specs.Workings.{FitsWorking};
 ghost use Rattle.searcher.specs.Searches.{IsFound, FindsShare, FindsSize};
 ghost use Rattle.search_team.specs.declared.jobs.Job.{Job};
 ghost use Rattle.search_team.specs.Searchers.{IsJob};
+ghost use Rattle.search_team.specs.Walkers.{IsWorker};
 ghost use Rattle.search_team.specs.Teams.{IsSharedFound, IsTeamStopped, IsHandedBack};
 
 use crate::ending::ended;
@@ -19,6 +20,7 @@ use crate::progress::Progress;
 use crate::steps::search_once;
 use crate::stopping::{Part, TeamStopped};
 use crate::turning::work;
+use crate::walkers::all_start;
 use branch_pool::{Pool, SEATS};
 use cayley::Problem;
 use edge_io::Gate;
@@ -77,11 +79,12 @@ fn run_all<G: Gate, R: Threads + Wait + Sync>(
     searchers: u32,
     given: &Snapshot<Vec<Branch>>,
     progress: &Progress,
+    from_start: bool,
     jobs: &mut [Job],
 )
     requires still { IsStill problem.now }
     requires seats { (searchers ≡ length pool.now.deques) × (searchers ≤ SEATS) }
-    requires jobs { All (IsJob problem.now pool.now given.now.value.items) jobs.old }
+    requires jobs { All (IsWorker problem.now pool.now given.now.value.items from_start) jobs.old }
     ensures jobs { All (IsJob problem.now pool.now given.now.value.items) jobs.new }
     ensures numbers { (i : ℕ) (d : Job) → i < length jobs.old → (slice_index_or jobs.new i d).number ≡ (slice_index_or jobs.old i d).number }
     ensures long { length jobs.new ≡ length jobs.old }
@@ -91,10 +94,10 @@ fn run_all<G: Gate, R: Threads + Wait + Sync>(
         jobs,
         SEATS as usize,
         &|_, job|
-            requires { IsStill problem.now × (searchers ≡ length pool.now.deques) × (searchers ≤ SEATS) × IsJob problem.now pool.now given.now.value.items job.old }
+            requires { IsStill problem.now × (searchers ≡ length pool.now.deques) × (searchers ≤ SEATS) × IsWorker problem.now pool.now given.now.value.items from_start job.old }
         {
             work(
-                rt, alloc, problem, gate, pool, searchers, given, progress, job,
+                rt, alloc, problem, gate, pool, searchers, given, progress, from_start, job,
             )
         },
     );
@@ -126,6 +129,7 @@ fn pooled<G: Gate, R: Threads + Wait + Sync>(
     } = room;
     let given = Snapshot::of(&branches);
     let open = branches.len() as u64;
+    let from_start = all_start(&branches);
     begun(problem, &given, &pool, &mut jobs, branches);
     let progress = Progress::new(open, jobs[0].report.is_some());
     run_all(
@@ -137,6 +141,7 @@ fn pooled<G: Gate, R: Threads + Wait + Sync>(
         searchers,
         &given,
         &progress,
+        from_start,
         jobs.as_mut_slice(),
     );
     ended(alloc, problem, &given, pool, jobs, parts, seats)

@@ -1,20 +1,22 @@
 //! One searcher at work.
-ghost use Rattle.std.specs.Prelude.{◌≡◌, ◌⊎◌, ◌<◌, ◌≤◌, ◌+◌, [], ◌∷◌, ◌++◌, IfSome, IsNone, IsTrue, IsPermutation, length, vec_len, vec_capacity};
+ghost use Rattle.std.specs.Prelude.{◌≡◌, ◌⊎◌, ◌<◌, ◌≤◌, ◌+◌, [], ◌∷◌, ◌++◌, IfSome, IsNone, IsTrue, IsPermutation, Contains, length, vec_len, vec_capacity};
 ghost use Rattle.cayley.specs.Problems.{IsStill};
 ghost use Rattle.branch_pool.specs.declared.rule.TheConstants.{SEATS};
 ghost use Rattle.branch_pool.specs.Seats.{IsSeatOf, all_taken};
 ghost use Rattle.searcher.specs.Branches.{children_of};
 ghost use Rattle.searcher.specs.Searches.{opened, found_in};
 ghost use Rattle.search_team.specs.Searchers.{IsJob};
+ghost use Rattle.search_team.specs.Walkers.{IsWalker, IsWorker};
 
 use crate::jobs::{Job, has_room};
 use crate::progress::Progress;
-use crate::steps::{count_after, expand_once};
+use crate::steps::count_after;
+use crate::walkers::{Taken, Walker};
 use branch_pool::{Pool, Seat};
 use cayley::Problem;
 use crossbeam_utils::Backoff;
 use edge_io::Gate;
-use searcher::{Branch, Children, Expansion, HaltCause};
+use searcher::{Branch, Children, Expansion, HaltCause, Walk};
 use std::alloc::Global;
 use std::snapshot::Snapshot;
 use std::sync::Wait;
@@ -48,21 +50,23 @@ fn next<R: Wait>(
     searchers: u32,
     number: u32,
     seat: &mut Seat<Branch>,
-) -> Option<Branch>
+) -> Option<Taken>
     requires own { IsSeatOf pool.now seat.old }
     requires seats { (searchers ≡ length pool.now.deques) × (searchers ≤ SEATS) }
     requires number { (seat.old.number ≡ number) × (number ≤ searchers) }
-    ensures some { IfSome result (λ b. IsPermutation (b ∷ all_taken seat.old) (all_taken seat.new)) }
+    ensures some { IfSome result (λ t. IsPermutation (t.branch ∷ all_taken seat.old) (all_taken seat.new)) }
+    ensures own { IfSome result (λ t. IsTrue t.own → Contains seat.old.offered t.branch) }
     ensures none { IsNone result → seat.new ≡ seat.old }
     ensures same { (seat.new.number ≡ seat.old.number) × (seat.new.deques ≡ seat.old.deques) × (seat.new.offered ≡ seat.old.offered) }
 {
     if let Some(branch) = pool.take(seat) {
-        return Some(branch);
+        return Some(Taken { branch, own: true });
     }
     if let Some(branch) = stolen(rt, pool, seat, number + 1, searchers + 1) {
-        return Some(branch);
+        return Some(Taken { branch, own: false });
     }
-    stolen(rt, pool, seat, 1, number)
+    let branch = stolen(rt, pool, seat, 1, number)?;
+    Some(Taken { branch, own: false })
 }
 
 // Offers a branch; one that is handed back goes to the hand.
@@ -159,12 +163,15 @@ fn turn<G: Gate, R: Wait>(
     given: &Snapshot<Vec<Branch>>,
     progress: &Progress,
     backoff: &Backoff,
+    walker: &mut Walker,
     job: &mut Job,
 ) -> bool
     requires still { IsStill problem.now }
     requires seats { (searchers ≡ length pool.now.deques) × (searchers ≤ SEATS) }
     requires job { IsJob problem.now pool.now given.now.value.items job.old }
+    requires walker { IsWalker problem.now job.old.seat.offered walker.old }
     ensures job { IsJob problem.now pool.now given.now.value.items job.new }
+    ensures walker { IsWalker problem.now job.new.seat.offered walker.new }
     ensures number { job.new.number ≡ job.old.number }
 {
     // A problem is valid by its type, as its readers tell.
@@ -177,7 +184,7 @@ fn turn<G: Gate, R: Wait>(
         progress.halt();
         return false;
     }
-    let Some(branch) = next(rt, pool, searchers, job.number, &mut job.seat) else {
+    let Some(taken) = next(rt, pool, searchers, job.number, &mut job.seat) else {
         if progress.is_done() {
             return false;
         }
@@ -187,8 +194,8 @@ fn turn<G: Gate, R: Wait>(
     backoff.reset();
     job.expansions = job.expansions.saturating_add(1);
     gate.pass(rt, job.number, job.expansions);
-    let solves = count_after(problem, &branch, job.solves);
-    match expand_once(alloc, problem, branch) {
+    let solves = count_after(problem, &taken.branch, job.solves);
+    match walker.expanded(alloc, problem, taken) {
         Ok(expansion) => {
             job.solves = solves;
             if !settled(pool, progress, job, expansion) {
@@ -207,7 +214,7 @@ fn turn<G: Gate, R: Wait>(
     }
 }
 
-/// Lets a searcher take, expand and offer until no branch is open or some searcher halted.
+/// Lets a searcher take, expand and offer until no branch is open or some searcher halted. It is told whether all given branches begin at the start.
 pub fn work<G: Gate, R: Wait>(
     rt: &R,
     alloc: Global,
@@ -217,18 +224,33 @@ pub fn work<G: Gate, R: Wait>(
     searchers: u32,
     given: &Snapshot<Vec<Branch>>,
     progress: &Progress,
+    from_start: bool,
     job: &mut Job,
 )
     requires still { IsStill problem.now }
     requires seats { (searchers ≡ length pool.now.deques) × (searchers ≤ SEATS) }
-    requires job { IsJob problem.now pool.now given.now.value.items job.old }
+    requires job { IsWorker problem.now pool.now given.now.value.items from_start job.old }
     ensures job { IsJob problem.now pool.now given.now.value.items job.new }
     ensures number { job.new.number ≡ job.old.number }
 {
     let backoff = Backoff::new();
+    let mut walker = Walker {
+        walk: Walk::new(problem),
+        from_start,
+    };
     for _ in rt.forever() {
         if !turn(
-            rt, alloc, problem, gate, pool, searchers, given, progress, &backoff, job,
+            rt,
+            alloc,
+            problem,
+            gate,
+            pool,
+            searchers,
+            given,
+            progress,
+            &backoff,
+            &mut walker,
+            job,
         ) {
             return;
         }

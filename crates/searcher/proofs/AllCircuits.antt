@@ -1,28 +1,20 @@
 -- the circuits of all lines' points are those of all further points
-use Rattle.std.proofs.Common.{◌≡◌, ℕ, zero, suc, ◌-◌, ◌<◌, ◌≤◌, List, [], ◌∷◌, length, arith, refl, subst, inl, inr}
+use Rattle.std.proofs.Common.{◌≡◌, ℕ, zero, suc, ◌-◌, ◌<◌, ◌≤◌, List, [], ◌∷◌, length, arith, refl, subst}
 use Rattle.std.proofs.Math.IntN.{ℤ}
 use Rattle.int_vectors.specs.Vectors.{Each}
 use Rattle.cayley.specs.Problems.{Point, Problem}
 use Rattle.cayley.specs.Cells.{Cell, IsFurther}
-use Rattle.cayley.specs.Dependencies.{support_at, pair_at, IsFurtherAt}
+use Rattle.cayley.specs.Dependencies.{pair_at, IsFurtherAt, nth_support}
 use Rattle.cayley.proofs.Lists.Each.{each_weaker}
 use Rattle.crossing.specs.declared.line.WallLine.{WallLine}
 use Rattle.cone_walls.specs.Places.{HasLine, AreOfFurtherPoints}
 use Rattle.inner_normal.specs.Coefficients.{difference, FitsCoefficients}
 use Rattle.inner_normal.specs.Inverses.{inverse_of, FitsInverse}
+use Rattle.cone_walls.proofs.FurtherLines.{each_has, has_each}
 use Rattle.searcher.specs.LineCircuits.{NamesFurther, FitsItsCircuit}
 use Rattle.searcher.specs.Workings.{FitAllCircuits}
 
-has_each : (lines : List WallLine) → Each lines (λ l. HasLine lines l.support l.position)
-has_each [] = tt
-has_each (l ∷ lines) = (inl (refl, refl), each_weaker (λ k. HasLine lines k.support k.position) (λ k. HasLine (l ∷ lines) k.support k.position) lines (λ k h. inr h) (has_each lines))
-
-each_has : (Q : ℕ → ℕ → Type 0) (lines : List WallLine) (j c : ℕ) → Each lines (λ l. Q l.support l.position) → HasLine lines j c → Q j c
-each_has Q [] j c e h = absurd h
-each_has Q (l ∷ lines) j c e (inl h) = subst (λ z. Q z c) h.0 (subst (Q l.support) h.1 e.0)
-each_has Q (l ∷ lines) j c e (inr h) = each_has Q lines j c e.1 h
-
-support_there : (supports : List (List Point)) (j a b c : ℕ) → IsFurther (support_at supports j) a b c → j < length supports
+support_there : (supports : List (List Point)) (j a b c : ℕ) → IsFurther (nth_support supports j) a b c → j < length supports
 support_there [] j a b c h = let l = h.0 in let m = h.1 in absurd (omega (arith, l, m))
 support_there (s ∷ supports) zero a b c h = omega arith
 support_there (s ∷ supports) (suc j) a b c h = let r = support_there supports j a b c h in omega (arith, r)

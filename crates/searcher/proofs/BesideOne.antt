@@ -7,6 +7,7 @@ use Rattle.std.specs.declared.cmp.Ordering.{Ordering}
 use Rattle.std.specs.declared.cmp.Ordering.TheVariants.{Less, Equal, Greater}
 use Rattle.wide_int.proofs.Ring.{as_D, Ds, same_D}
 use Rattle.int_vectors.specs.Vectors.{at, add, scale}
+use Rattle.int_vectors.proofs.Entries.{at-scale, at-add, zero_from}
 use Rattle.lex_height.specs.declared.part.LexPart.{LexPart}
 use Rattle.lex_height.specs.Entries.{entry, entries, at_rank}
 use Rattle.lex_height.specs.Order.{IsLess, IsSame}
@@ -14,8 +15,6 @@ use Rattle.lex_height.specs.Values as lex
 use Rattle.lex_height.proofs.Ranks.{entries_is}
 use Rattle.lex_height.proofs.Comparing.{less_as, same_as}
 use Rattle.cayley.specs.Times.{Time, IsBefore, IsSameTime}
-use Rattle.cayley.proofs.Algebra.RowDependencies.{zero-at}
-use Rattle.cayley.proofs.Algebra.ScaledInverse.{at-add, at-scale}
 use Rattle.crossing.proofs.Lists.{less_earlier}
 use Rattle.searcher.specs.Passes.{time_one}
 
@@ -45,7 +44,7 @@ module _ (u : lex.Value) (low : lex.IsLowest u) (t : Time) (e : t.entries ≡ en
       (less_as (entry one_part) (at_rank (entries one_part)) (entry u.parts) (at_rank (entries u.parts)) (pos 1) u.den (λ k. sym (entries_is one_part one_parts k)) (λ k. sym (entries_is u.parts low.0.1 k)) l)))
 
   at_one : IsSame (entry u.parts) u.den (entry one_part) (pos 1) → IsSameTime t time_one
-  at_one s = zero-at (add (scale t.over (pos 1 ∷ [])) (scale (neg_ℤ (pos 1)) t.entries)) each
+  at_one s = zero_from (add (scale t.over (pos 1 ∷ [])) (scale (neg_ℤ (pos 1)) t.entries)) each
     where
       same : IsSame (at t.entries) t.over (at (pos 1 ∷ [])) (pos 1)
       same =

@@ -9,16 +9,17 @@ use Rattle.cayley.specs.Valid.{IsStillProblem}
 use Rattle.cayley.specs.Cells.{Cell}
 use Rattle.cayley.specs.Mixed.{IsMixedCell}
 use Rattle.cayley.specs.Shares as shares
-use Rattle.cayley.specs.Shares.{IsShare, GivesShares}
+use Rattle.cayley.specs.Shares.{GivesShares}
 use Rattle.cayley.proofs.Life.LifeLaws.{one_share_law}
 use Rattle.cayley.proofs.Searching.FilePoints.{dec_mixed}
 use Rattle.cayley.proofs.Searching.Steps.{Keeps, keeps_begin, keeps_end, shares_exist}
+use Rattle.cayley.specs.Stored.{cells_of}
 use Rattle.searcher.specs.declared.branches.Branch.{Branch}
 use Rattle.searcher.specs.declared.counting.Counted.{Counted}
 use Rattle.searcher.specs.declared.expansions.Expansion.{Expansion}
 use Rattle.searcher.specs.Branches.{branch_of, branches_of}
 use Rattle.searcher.specs.Expansions.{IsExpansion}
-use Rattle.searcher.specs.Searches.{all_shares, cells_of, opened, found_in, top}
+use Rattle.searcher.specs.Searches.{all_shares, opened, found_in, top}
 use Rattle.searcher.specs.Counts.{CountsShares, CountsShare, CountsSize, IsCounted}
 use Rattle.searcher.proofs.Turns.{turn_keeps}
 use Rattle.searcher.proofs.Results.{cost_of_one}

@@ -1,25 +1,16 @@
 -- the cells of the problem that has the file points alone
-use Rattle.std.proofs.Common.{◌≡◌, ◌↔◌, ℕ, zero, suc, ◌+◌, ◌<◌, ◌≤◌, Bool, true, false, if◌then◌else◌, List, [], ◌∷◌, length, map, take, arith, refl, sym, ap, subst}
+use Rattle.std.proofs.Common.{◌≡◌, ◌↔◌, ℕ, zero, suc, ◌+◌, ◌<◌, ◌≤◌, List, [], ◌∷◌, length, map, take, arith, sym, subst}
 use Rattle.std.proofs.lemmas.List.{length-map}
 use Rattle.std.specs.Prelude.{slice_index_or}
-use Rattle.cayley.specs.Problems.{Version, Point, Problem, with_rank, is_start_corner, numbered, numbered_supports, ranks_in, ranked_supports, first_points, file_points}
+use Rattle.cayley.specs.Problems.{Version, Point, Problem, with_rank, numbered_supports, ranks_in, ranked_supports, first_points, file_points}
 use Rattle.cayley.specs.Problems.Version.{version1, version2}
 use Rattle.cayley.specs.Cells.{Cell, EachPair, IsOf}
+use Rattle.cayley.proofs.OneCell.FilePointRanks.{length-numbered}
 
 abbrev Ordered : List Point → ℕ → ℕ → Type 0
 Ordered s a b = (1 ≤ a) × (a < b) × (b ≤ length s)
 
 -- ---- ranks change no length
-length_numbered : (i f position r : ℕ) (xs : List Point) → length (numbered i f position r xs) ≡ length xs
-length_numbered i f position r [] = refl
-length_numbered i f position r (x ∷ xs) =
-    choice (is_start_corner i f position) (with_rank 0 x ∷ numbered i f (suc position) r xs) (with_rank r x ∷ numbered i f (suc position) (suc r) xs)
-    (ap suc (length_numbered i f (suc position) r xs)) (ap suc (length_numbered i f (suc position) (suc r) xs))
-  where
-    choice : (b : Bool) (ys zs : List Point) → length ys ≡ suc (length xs) → length zs ≡ suc (length xs) → length (if b then ys else zs) ≡ suc (length xs)
-    choice true ys zs h k = h
-    choice false ys zs h k = k
-
 module _ (P : ℕ → ℕ → ℕ → Type 0) where
   abbrev ByLength : List Point → ℕ → ℕ → Type 0
   ByLength s a b = P (length s) a b
@@ -39,11 +30,11 @@ module _ (P : ℕ → ℕ → ℕ → Type 0) where
   numbered_pairs i r [] (s ∷ supports) [] = ((λ h. h), (λ h. h))
   numbered_pairs i r (f ∷ files) (s ∷ supports) [] = ((λ h. h), (λ h. h))
   numbered_pairs i r [] (s ∷ supports) (x ∷ cell) =
-      let e = length_numbered i 0 1 r s in
+      let e = length-numbered i 0 1 r s in
       let k = numbered_pairs (suc i) (r + ranks_in 0 s) [] supports cell in
       ((λ h. (subst (λ n. P n x.0 x.1) e h.0, k.0 h.1)), (λ h. (subst (λ n. P n x.0 x.1) (sym e) h.0, k.1 h.1)))
   numbered_pairs i r (f ∷ files) (s ∷ supports) (x ∷ cell) =
-      let e = length_numbered i f 1 r s in
+      let e = length-numbered i f 1 r s in
       let k = numbered_pairs (suc i) (r + ranks_in f s) files supports cell in
       ((λ h. (subst (λ n. P n x.0 x.1) e h.0, k.0 h.1)), (λ h. (subst (λ n. P n x.0 x.1) (sym e) h.0, k.1 h.1)))
 

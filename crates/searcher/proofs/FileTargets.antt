@@ -1,26 +1,25 @@
 -- a cell of file points that is alive is alive among the file points alone, and its normal rests
-use Rattle.std.proofs.Common.{◌≡◌, ℕ, ◌<◌, ◌≤◌, List, [], ◌∷◌, length, arith, sym, ap, ap₂, ◌∙◌}
+use Rattle.std.proofs.Common.{◌≡◌, ℕ, ◌<◌, ◌≤◌, List, [], ◌∷◌, length, arith, ap₂, ◌∙◌}
 use Rattle.std.proofs.lemmas.Int.{ints}
 use Rattle.std.proofs.Math.IntN.{ℤ, pos, ◌+ℤ◌, ◌-ℤ◌, ◌*ℤ◌, neg_ℤ, *ℤ-zero}
 use Rattle.wide_int.proofs.Ring.{as_D, Ds, same_D}
 use Rattle.int_vectors.specs.Vectors.{IsZero, IsPositive, dot, at, sub, scale}
+use Rattle.int_vectors.proofs.Entries.{at-scale, not_zero}
 use Rattle.cayley.specs.Times.{Time, time_zero}
 use Rattle.cayley.specs.Problems.{Point, Problem, IsProblem, IsStill, point_at, file_points}
 use Rattle.cayley.specs.Cells.{Cell, EachPair, IsOf, IsIndependent, IsFurther}
 use Rattle.cayley.specs.Normals.{Normal, gap, IsNormal, AllAbove}
 use Rattle.cayley.specs.Mixed.{IsAlive, IsMixedCell}
 use Rattle.cayley.specs.Valid.{IsValidProblem}
-use Rattle.cayley.proofs.Algebra.Kernel.{length-map}
-use Rattle.cayley.proofs.Algebra.RowDependencies.{zero-at}
-use Rattle.cayley.proofs.Algebra.RowNormals.{at-zero}
-use Rattle.cayley.proofs.Algebra.ScaledInverse.{at-scale}
-use Rattle.cayley.proofs.Order.Lexicographic.{positive-same, positive-scale, not_zero, not_both, three}
+use Rattle.cayley.proofs.Order.Lexicographic.{positive-same, not_both, three}
 use Rattle.cayley.proofs.OneCell.CellNormals.{a_normal}
 use Rattle.cayley.proofs.OneCell.OneNormal.{alive_by_any_normal}
 use Rattle.cayley.proofs.OneCell.RaisedRanks.{IsRankedAs, resting_value, still_gap, spread, spread_normal, positive_spread, zero_spread}
 use Rattle.cayley.proofs.OneCell.FilePointRanks.{Alike, Alikes, file_points_alike}
 use Rattle.cayley.proofs.Searching.FilePoints.{file_points_well}
 use Rattle.cayley.proofs.Lists.Supports.{each_support_long}
+use Rattle.cayley.proofs.Algebra.Dependence.{length-map}
+use Rattle.cayley.proofs.Life.Targets.{still_zero, still_positive}
 use Rattle.inner_normal.specs.declared.moving.MovingNormal.{MovingNormal}
 use Rattle.inner_normal.specs.MovingNormals.{IsMovingNormal}
 use Rattle.inner_normal.proofs.FileNormals.{levels_of}
@@ -54,22 +53,6 @@ module _ (gs : List ℕ) where
 
   second_point : (s u : List Point) (a b : ℕ) → Alike gs s u → Ordered u a b → IsRankedAs gs (point_at s b) (point_at u b)
   second_point s u a b k o = k.file b (let l = o.0 in let m = o.1 in omega (arith, l, m)) o.2
-
--- ---- points of speed 0
-still_zero : (t : Time) (v : Normal) (p q : Point) → p.speed ≡ pos 0 → q.speed ≡ pos 0 → IsZero (gap time_zero v p q) → IsZero (gap t v p q)
-still_zero t v p q sp sq z = zero-at _ (λ e. still_gap t v p q e sp sq ∙ ap (λ x. t.over *ℤ x) (level e) ∙ *ℤ-zero t.over)
-  where
-    level : (e : ℕ) → resting_value v q e -ℤ resting_value v p e ≡ pos 0
-    level e = let a = still_gap time_zero v p q e sp sq in let b = at-zero (gap time_zero v p q) e z in omega (arith, ints, a, b)
-
-still_positive : (t : Time) (v : Normal) (p q : Point) → p.speed ≡ pos 0 → q.speed ≡ pos 0 → IsPositive (gap time_zero v p q) → IsPositive (gap t v p q)
-still_positive t v p q sp sq h = positive-same (scale t.over (gap time_zero v p q)) _ same (positive-scale t.over (gap time_zero v p q) t.positive h)
-  where
-    first : (e : ℕ) → at (gap time_zero v p q) e ≡ resting_value v q e -ℤ resting_value v p e
-    first e = let a = still_gap time_zero v p q e sp sq in omega (arith, ints, a)
-
-    same : (e : ℕ) → at (scale t.over (gap time_zero v p q)) e ≡ at (gap t v p q) e
-    same e = at-scale t.over (gap time_zero v p q) e ∙ ap (λ x. t.over *ℤ x) (first e) ∙ sym (still_gap t v p q e sp sq)
 
 -- the gap back is the gap times -1
 gap_back : (v : Normal) (p q : Point) → p.speed ≡ pos 0 → q.speed ≡ pos 0 → IsPositive (scale (neg_ℤ (pos 1)) (gap time_zero v p q)) → IsPositive (gap time_zero v q p)

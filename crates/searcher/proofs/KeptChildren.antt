@@ -21,8 +21,8 @@ use Rattle.cayley.proofs.Searching.Listing.{Has}
 use Rattle.cayley.proofs.Searching.Members.{has_contains, contains_has}
 use Rattle.cayley.proofs.Searching.Shares.{has_list}
 use Rattle.circuit.specs.declared.circuits.Circuit.{Circuit}
-use Rattle.circuit.specs.Circuits.{IsCircuit, sign_of}
-use Rattle.flip_rule.specs.Signs.{HasSign}
+use Rattle.cayley.specs.Signs.{sign_of, HasSign}
+use Rattle.circuit.specs.Circuits.{IsCircuit}
 use Rattle.inner_normal.specs.Coefficients.{pairs_of, numbers_of}
 use Rattle.searcher.specs.declared.branches.Branch.{Branch}
 use Rattle.searcher.specs.Branches.{branch_of, branches_of}

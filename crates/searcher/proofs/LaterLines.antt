@@ -4,6 +4,7 @@ use Rattle.std.proofs.lemmas.Int.{ints}
 use Rattle.std.proofs.lemmas.List.{get_or_default}
 use Rattle.wide_int.proofs.Order.{sign_cases}
 use Rattle.int_vectors.specs.Vectors.{IsZero, IsPositive, at}
+use Rattle.int_vectors.proofs.Entries.{not_zero}
 use Rattle.lex_height.specs.Entries.{entries}
 use Rattle.lex_height.specs.Values as lex
 use Rattle.lex_height.proofs.Comparing.{less_less}
@@ -18,7 +19,7 @@ use Rattle.crossing.specs.Leading.{nth, start}
 use Rattle.crossing.specs.Lines.{constant, value, IsEarlier, ArePositive}
 use Rattle.crossing.specs.Places.{HasAt, origin}
 use Rattle.crossing.proofs.Between.{falling_zero}
-use Rattle.crossing.proofs.Lists.{earlier_less, less_earlier, not_zero}
+use Rattle.crossing.proofs.Lists.{earlier_less, less_earlier}
 use Rattle.crossing.proofs.Once.{has_at}
 use Rattle.crossing.proofs.Values.{turn, positive_ratio, ratio_positive, less_level, less_turn, zero_later, level_start, level_value}
 

@@ -1,29 +1,31 @@
 mod AllCircuits
-mod KeptChildren
+pub mod KeptChildren
 mod ZeroLines
-mod LinePoints
+pub mod LinePoints
 mod LaterLines
 mod TwoEnds
 mod OneAnswer
 mod ShownEnds
 mod FileCells
-mod TiedEnds
+pub mod TiedEnds
 mod FitWorkings
 pub mod FileTargets
 mod EndCauses
 mod SettledBranches
-pub mod OnTheWay
+mod OnTheWay
 mod PassedEnds
 mod PassTurns
-mod PassLists
+pub mod PassLists
 mod BesideOne
 mod CellOrders
 pub mod Sizes
 pub mod Orders
 pub mod Turns
 pub mod Results
-pub mod CountedShares
+mod CountedShares
 mod UntiedChildren
 mod MadeEnds
 mod LastCells
-mod MadeBranches
+pub mod MadeBranches
+mod PutChildren
+mod TurnAnswers

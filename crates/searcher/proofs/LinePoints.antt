@@ -5,7 +5,7 @@ use Rattle.int_vectors.specs.Vectors.{IsZero}
 use Rattle.cayley.specs.Times.{Time}
 use Rattle.cayley.specs.Problems.{Problem, IsProblem}
 use Rattle.cayley.specs.Cells.{Cell, IsOf, IsIndependent}
-use Rattle.cayley.specs.Dependencies.{support_at, pair_at, IsFurtherAt}
+use Rattle.cayley.specs.Dependencies.{pair_at, IsFurtherAt, nth_support}
 use Rattle.cayley.specs.Normals.{Normal, IsNormal, IsLevel}
 use Rattle.cayley.specs.Ties.{IsLevelAt, TwoLevel}
 use Rattle.cayley.specs.Flips.{IsOnlyLevel}
@@ -74,7 +74,7 @@ module _ (p : Problem) (cell : Cell) (well : IsProblem p) (of : IsOf p cell) (in
     IsZeroThen k = IsZero (value (nth lines k) t.entries t.over)
 
     zero_level : (k : ℕ) → k < length lines → IsZeroThen k → (v : Normal) → IsNormal p cell t v
-        → IsLevel t v (support_at p.supports ((nth lines k).support - 1)) (pair_at cell ((nth lines k).support - 1)).0 (nth lines k).position
+        → IsLevel t v (nth_support p.supports ((nth lines k).support - 1)) (pair_at cell ((nth lines k).support - 1)).0 (nth lines k).position
     zero_level k l z v n = (all_each (TellsSide p cell t v) lines (sides t v n) k origin l).1.0 z
 
     level_zero : (v : Normal) → IsNormal p cell t v → (j c : ℕ) → IsLevelAt p cell t v j c → (k : ℕ) × (k < length lines) × (spot lines k ≡ (suc j, c)) × IsZeroThen k
@@ -83,8 +83,8 @@ module _ (p : Problem) (cell : Cell) (well : IsProblem p) (of : IsOf p cell) (in
         let r = line_there lines (suc j) c ((places.1 (suc j) c).1 (omega arith, subst (λ i. IsFurtherAt p cell i c) e h.0)) in
         let side = all_each (TellsSide p cell t v) lines (sides t v n) r.0 origin r.1 in
         let i : j ≡ (nth lines r.0).support - 1 = (let a = r.2 in omega (arith, a)) in
-        let level = subst (λ i. IsLevel t v (support_at p.supports i) (pair_at cell i).0 (nth lines r.0).position) i
-        (subst (λ d. IsLevel t v (support_at p.supports j) (pair_at cell j).0 d) (sym r.3) h.1) in
+        let level = subst (λ i. IsLevel t v (nth_support p.supports i) (pair_at cell i).0 (nth lines r.0).position) i
+        (subst (λ d. IsLevel t v (nth_support p.supports j) (pair_at cell j).0 d) (sym r.3) h.1) in
         (r.0, r.1, ap₂ (λ a b. (a, b)) r.2 r.3, side.1.1 level)
 
     then_of_zero : (k : ℕ) → k < length lines → IsZeroThen k → IsLevelThen p cell t (spot lines k)

@@ -6,8 +6,11 @@ use Rattle.cayley.specs.Parents.{IsParent}
 use Rattle.cayley.specs.Shares as shares
 use Rattle.cayley.specs.Shares.{IsTrueBranch, IsChildren}
 use Rattle.cayley.proofs.Lists.Each.{each_append}
-use Rattle.cayley.proofs.Searching.Members.{has_map}
 use Rattle.cayley.proofs.Searching.Shares.{list_has}
+use Rattle.cayley.proofs.Algebra.RowDependencies.{each-left}
+use Rattle.cayley.proofs.Order.Lined.{each_has}
+use Rattle.cayley.proofs.Searching.Listing.{has-map}
+use Rattle.cayley.proofs.Searching.Steps.{each_in}
 use Rattle.searcher.specs.declared.branches.Branch.{Branch}
 use Rattle.searcher.specs.declared.expansions.Expansion.{Expansion}
 use Rattle.searcher.specs.declared.expansions.Expansion.TheVariants.{Inner, Target, Endless, Stranger}
@@ -15,7 +18,6 @@ use Rattle.searcher.specs.Branches.{branch_of, branches_of, children_of}
 use Rattle.searcher.specs.Expansions.{IsExpansion}
 use Rattle.searcher.specs.Searches.{opened}
 use Rattle.searcher.specs.Walks.{IsMade}
-use Rattle.searcher.proofs.Turns.{each_in, in_each}
 use Rattle.searcher.proofs.TwoEnds.{some_alive}
 use Rattle.searcher.proofs.UntiedChildren.{untied_child}
 
@@ -26,10 +28,6 @@ drop_all P zero (x ∷ xs) l = absurd (omega (arith, l))
 drop_all P (suc n) [] l = tt
 drop_all P (suc n) (x ∷ xs) l = drop_all P n xs (omega (arith, l))
 
-each_front : {A : Type 0} (P : A → Type 0) (xs ys : List A) → Each (xs ++ ys) P → Each xs P
-each_front P [] ys h = tt
-each_front P (x ∷ xs) ys h = (h.0, each_front P xs ys h.1)
-
 each_last : {A : Type 0} (P : A → Type 0) (n : ℕ) (rest : List A) (b : A) → n ≤ length rest → Each (drop n (rest ++ b ∷ [])) P → P b
 each_last P zero [] b l h = h.0
 each_last P zero (r ∷ rest) b l h = each_last P zero rest b (omega arith) h.1
@@ -37,7 +35,7 @@ each_last P (suc n) [] b l h = absurd (omega (arith, l))
 each_last P (suc n) (r ∷ rest) b l h = each_last P n rest b (omega (arith, l)) h
 
 each_drop : {A : Type 0} (P : A → Type 0) (n m : ℕ) (rest xs ys : List A) → m ≡ min n (length rest) → Each (drop n (rest ++ ys)) P → Each xs P → Each (drop m (rest ++ xs)) P
-each_drop P zero zero rest xs ys e h k = each_append P rest xs (each_front P rest ys h) k
+each_drop P zero zero rest xs ys e h k = each_append P rest xs (each-left P rest ys h) k
 each_drop P zero (suc m) rest xs ys e h k = absurd (omega (arith, e))
 each_drop P (suc n) zero [] xs ys e h k = k
 each_drop P (suc n) (suc m) [] xs ys e h k = absurd (omega (arith, e))
@@ -49,10 +47,10 @@ module _ (p : Problem) (well : IsProblem p) where
   kids_made : (b : Branch) (kids : List Branch) → IsChildren p b.cell (branches_of kids) → ((k : Branch) → IsParent p b.cell k.cell → IsTrueBranch p (branch_of k) → IsMade p k) → Each kids (IsMade p)
   kids_made b kids children made = each_in (IsMade p) kids
       (λ k h.
-      let there = has_map branch_of k kids h in
+      let there = has-map branch_of k kids h in
       made k
-      (list_has (λ c. IsParent p b.cell c) (map (λ (x : shares.Branch). x.cell) (branches_of kids)) children.1 k.cell (has_map (λ (x : shares.Branch). x.cell) (branch_of k) (branches_of kids) there))
-      (in_each (IsTrueBranch p) (branches_of kids) (branch_of k) children.0 there))
+      (list_has (λ c. IsParent p b.cell c) (map (λ (x : shares.Branch). x.cell) (branches_of kids)) children.1 k.cell (has-map (λ (x : shares.Branch). x.cell) (branch_of k) (branches_of kids) there))
+      (each_has (IsTrueBranch p) (branches_of kids) (branch_of k) children.0 there))
 
   pub opened_made : (b : Branch) (e : Expansion) → IsExpansion p b e → Each (opened e) (IsMade p)
   opened_made b (Inner children) h =

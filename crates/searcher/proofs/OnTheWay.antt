@@ -10,11 +10,10 @@ use Rattle.cayley.specs.Parents.{IsParent, InChain}
 use Rattle.cayley.specs.Parents.InChain.{here, up}
 use Rattle.cayley.specs.Shares.{IsChildren}
 use Rattle.cayley.specs.Shares as shares
-use Rattle.cayley.proofs.Order.Lines.{before_trans, earlier}
-use Rattle.cayley.proofs.Order.Times.{time_cases, never_before, same_before, before_same, trans_before, middle}
+use Rattle.cayley.proofs.Order.Lines.{before_trans, earlier, middle}
+use Rattle.cayley.proofs.Order.Times.{time_cases, never_before, same_before, before_same, trans_before}
 use Rattle.cayley.proofs.Life.LifeLaws.{life_law, once_law, parent_law, child_law}
-use Rattle.cayley.proofs.Searching.Listing.{Has}
-use Rattle.cayley.proofs.Searching.Members.{has_map}
+use Rattle.cayley.proofs.Searching.Listing.{Has, has-map}
 use Rattle.cayley.proofs.Searching.Shares.{list_has}
 use Rattle.searcher.specs.declared.branches.Branch.{Branch}
 use Rattle.searcher.specs.declared.expansions.Children.{Children}
@@ -90,7 +89,7 @@ module _ (p : Problem) (well : IsProblem p) where
     kid : (kids : List Branch) → IsChildren p sigma (branches_of kids) → (k : Branch) → Has k kids → IsOnItsWay p k.cell
     kid kids children k h =
         child_on_its_way k.cell
-        (list_has (λ c. IsParent p sigma c) _ children.1 k.cell (has_map (λ (b : shares.Branch). b.cell) (branch_of k) (branches_of kids) (has_map branch_of k kids h)))
+        (list_has (λ c. IsParent p sigma c) _ children.1 k.cell (has-map (λ (b : shares.Branch). b.cell) (branch_of k) (branches_of kids) (has-map branch_of k kids h)))
 
     pub children_on_their_way : (children : Children) → IsChildren p sigma (branches_of (children_of children)) → Each (followed_by children) (IsOnItsWay p)
     children_on_their_way None c = tt

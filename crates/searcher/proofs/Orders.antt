@@ -13,7 +13,8 @@ use Rattle.cayley.specs.Cells.{Cell, IsLess}
 use Rattle.cayley.proofs.OneCell.CellOrder.{pair_cmp, less-cmp, compared}
 use Rattle.cayley.proofs.Lists.Each.{no_both}
 use Rattle.cayley.proofs.Searching.Counting as counting
-use Rattle.searcher.specs.Searches.{NeverFalls, cells_of}
+use Rattle.cayley.specs.Stored.{cells_of}
+use Rattle.searcher.specs.Searches.{NeverFalls}
 
 -- whether the first cell is less
 abbrev pub is_before : FoundCell → FoundCell → Bool

@@ -20,8 +20,8 @@ use Rattle.cayley.proofs.Lists.Each.{each_append}
 use Rattle.cayley.proofs.Life.Decisions.{dec_alive, find_begins}
 use Rattle.cayley.proofs.Life.LifeLaws.{life_law}
 use Rattle.cayley.proofs.Searching.Chains.{chain_trans}
-use Rattle.cayley.proofs.Searching.Listing.{Has}
-use Rattle.cayley.proofs.Searching.Members.{has_contains, contains_has, has_map}
+use Rattle.cayley.proofs.Searching.Listing.{Has, has-map}
+use Rattle.cayley.proofs.Searching.Members.{has_contains, contains_has}
 use Rattle.cayley.proofs.Searching.Shares.{list_has, one_list}
 use Rattle.cayley.proofs.Searching.Steps.{Keeps, weight, keeps_begin, keeps_end, keeps_step, keeps_drop, inner_keeps, inner_falls, drop_falls, shares_exist}
 use Rattle.searcher.specs.declared.branches.Branch.{Branch}
@@ -107,9 +107,6 @@ sum_swapped f rest b c =
     omega (arith, i, j, k, l, m, n)
 
 -- ---- the children in cell order
-abbrev in_order : Problem → Children → List shares.Branch
-in_order p children = map (branch_in p) (cells_from (branches_of (children_of children)))
-
 module _ (p : Problem) (share : shares.Branch → List Cell) (given : List shares.Branch) (found : List Cell) (rest : List shares.Branch) where
   keeps_followed : (children : Children) → Keeps share given found (rest ++ map (branch_in p) (cells_from (branches_of (children_of children)))) → Keeps share given found (rest ++ map (branch_in p) (followed_by children))
   unfolding cells_from
@@ -220,7 +217,7 @@ module _ (p : Problem) (well : IsProblem p) (next : Cell) (left rest : List Cell
   module _ (given : List Cell) where
     child_led : (children : Children) → IsPassage p next (Followed children) → IsLedBy p given next → (k : Branch) → Has k (children_of children) → IsLedBy p given k.cell
     child_led children is l k h =
-        let q = list_has (λ c. IsParent p next c) _ is.1.1 k.cell (has_map (λ (x : shares.Branch). x.cell) (branch_of k) (branches_of (children_of children)) (has_map branch_of k (children_of children) h)) in
+        let q = list_has (λ c. IsParent p next c) _ is.1.1 k.cell (has-map (λ (x : shares.Branch). x.cell) (branch_of k) (branches_of (children_of children)) (has-map branch_of k (children_of children) h)) in
         (l.0, l.1, chain_trans p l.0 next k.cell l.2 (up q here))
 
     new_led : (passage : Passage) → IsPassage p next passage → IsLedBy p given next → Each (left_by passage) (IsLedBy p given)

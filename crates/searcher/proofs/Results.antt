@@ -12,12 +12,14 @@ use Rattle.cayley.specs.Mixed.{IsMixedCell}
 use Rattle.cayley.specs.Shares as shares
 use Rattle.cayley.specs.Shares.{IsShare, IsSize, GivesShares, GivesSizes, GivesCosts}
 use Rattle.cayley.proofs.Life.Decisions.{dec_of}
-use Rattle.cayley.proofs.Searching.Listing.{Has}
-use Rattle.cayley.proofs.Searching.Members.{has_contains, contains_has, has_right, has_map, sorted_from}
+use Rattle.cayley.proofs.Searching.Listing.{Has, has-right, has-map}
+use Rattle.cayley.proofs.Searching.Members.{has_contains, contains_has, sorted_from}
 use Rattle.cayley.proofs.Searching.Counting.{sorted_same}
 use Rattle.cayley.proofs.Searching.FilePoints.{dec_mixed}
 use Rattle.cayley.proofs.Searching.Shares.{one_size}
-use Rattle.cayley.proofs.Searching.Steps.{Keeps, Counts, keeps_end, shares_exist, sizes_exist, costs_exist, counts_end}
+use Rattle.cayley.proofs.Searching.Steps.{Keeps, Counts, keeps_end, shares_exist, sizes_exist, costs_exist, counts_end, each_in}
+use Rattle.cayley.specs.Stored.{cells_of}
+use Rattle.cayley.proofs.Order.Lined.{each_has}
 use Rattle.searcher.specs.declared.branches.Branch.{Branch}
 use Rattle.searcher.specs.declared.expansions.HaltCause.{HaltCause}
 use Rattle.searcher.specs.declared.expansions.HaltCause.TheVariants.{Tie, Overflow, OutOfMemory}
@@ -27,9 +29,8 @@ use Rattle.searcher.specs.Branches.{branch_of, branches_of}
 use Rattle.searcher.specs.Workings.{FitsWorking}
 use Rattle.searcher.specs.Ends.{NamesEnd}
 use Rattle.searcher.specs.Expansions.{IsCause, HasLowestNormal}
-use Rattle.searcher.specs.Searches.{NeverFalls, cells_of, all_shares, AreSharesOf, CostOf, IsFound, IsStopped, IsLeft, IsOfLeft, FindsShare, FindsSize, top}
+use Rattle.searcher.specs.Searches.{NeverFalls, all_shares, AreSharesOf, CostOf, IsFound, IsStopped, IsLeft, IsOfLeft, FindsShare, FindsSize, top}
 use Rattle.searcher.proofs.Orders.{as_counted}
-use Rattle.searcher.proofs.Turns.{each_in, in_each}
 
 -- ---- the cells
 pub all_found : (p : Problem) (given left : List Branch) (found sorted : List FoundCell) → left ≡ [] → IsPermutation found sorted
@@ -42,7 +43,7 @@ all_found p given left found sorted none moved keeps share gives =
 -- what each cell has, each has in any order
 pub each_sorted : (P : FoundCell → Type 0) (found sorted : List FoundCell) → IsPermutation found sorted → Each found P → Each sorted P
 each_sorted P found sorted moved n = each_in P sorted (λ f h.
-    in_each P found f n (contains_has found f (Contains-permutation sorted found f (IsPermutation-sym found sorted moved) (has_contains sorted f h))))
+    each_has P found f n (contains_has found f (Contains-permutation sorted found f (IsPermutation-sym found sorted moved) (has_contains sorted f h))))
 
 -- ---- the count
 cost_by_size : (p : Problem) (b : shares.Branch) (m : ℕ) (x y : ℕ)
@@ -118,7 +119,7 @@ pub cause_left : (p : Problem) (left rest : List Branch) (b : Branch) (cause : H
 cause_left p left rest b cause popped is = by_cause cause is
   where
     there : Contains (map (λ (x : Branch). x.cell) left) b.cell
-    there = has_contains (map (λ (x : Branch). x.cell) left) b.cell (has_map (λ (x : Branch). x.cell) b left (subst (λ l. Has b l) (sym popped) (has_right b rest (b ∷ []) (inl refl))))
+    there = has_contains (map (λ (x : Branch). x.cell) left) b.cell (has-map (λ (x : Branch). x.cell) b left (subst (λ l. Has b l) (sym popped) (has-right b rest (b ∷ []) (inl refl))))
 
     by_cause : (cause : HaltCause) → IsCause p b cause → IsOfLeft p left cause
     by_cause (Tie proof) h = subst (λ c. Contains (map (λ (x : Branch). x.cell) left) c) (sym (named_cell p b.cell proof h.1)) there

@@ -48,13 +48,13 @@ module _ (p : Problem) (well : IsProblem p) (cell : Cell) (proof : TieProof) whe
       (t, k.2.1, (shown t v.0 a.0 a.1 v.1 (before_none_below p cell well t v.0 k.1.0 v.1) k.2, inr (subst (λ c. EndsAt p c t) (sym k.2.0) k.1)))
 
 module _ (p : Problem) (b : Branch) (well : IsProblem p) where
-  cause_shown : (cause : HaltCause) → IsCause p b cause → ShowsTieAtEnd p cause
+  pub cause_shown : (cause : HaltCause) → IsCause p b cause → ShowsTieAtEnd p cause
   cause_shown (Tie proof) h = shown_end p well b.cell proof h.1
   cause_shown (Overflow cell) h = tt
   cause_shown OutOfMemory h = tt
 
   -- so there is none where no cell has a tie
-  none_free : IsTieFree p → (cause : HaltCause) → ShowsTieAtEnd p cause → HasNoTie cause
+  pub none_free : IsTieFree p → (cause : HaltCause) → ShowsTieAtEnd p cause → HasNoTie cause
   none_free free (Tie proof) h = let s = shown_tie_law p proof.cell h.0 (spot_of proof.first) (option_map spot_of proof.second) well h.2.0 in free proof.cell h.0 s.0 s.1
   none_free free (Overflow cell) h = tt
   none_free free OutOfMemory h = tt

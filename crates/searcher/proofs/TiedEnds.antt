@@ -3,6 +3,7 @@ use Rattle.std.proofs.Common.{◌≡◌, ℕ, ◌-◌, ◌<◌, List, length, ar
 use Rattle.std.proofs.lemmas.Int.{ints}
 use Rattle.std.proofs.lemmas.List.{get_or_default}
 use Rattle.int_vectors.specs.Vectors.{IsZero}
+use Rattle.int_vectors.proofs.Entries.{not_zero}
 use Rattle.lex_height.specs.Entries.{entries}
 use Rattle.lex_height.specs.Values as lex
 use Rattle.cayley.specs.Times.{Time, IsBefore, IsSameTime}
@@ -30,7 +31,6 @@ use Rattle.crossing.specs.Lines.{value, ArePositive}
 use Rattle.crossing.specs.Entries.{RisesAt, IsEntry}
 use Rattle.crossing.specs.Exits.{FallsAt, IsExit}
 use Rattle.crossing.specs.Places.{HasAt, origin}
-use Rattle.crossing.proofs.Lists.{not_zero}
 use Rattle.cone_walls.proofs.Living.{AreFurther, alive_positive, positive_alive}
 use Rattle.cone_walls.specs.Lives.{LivesBetween}
 use Rattle.cone_walls.specs.Places.{AreOfFurtherPoints}

@@ -16,17 +16,19 @@ use Rattle.cayley.proofs.Lists.Each.{each_append}
 use Rattle.cayley.proofs.Life.Decisions.{dec_of}
 use Rattle.cayley.proofs.Life.LifeLaws.{child_law, share_law}
 use Rattle.cayley.proofs.Life.Targets.{target_law}
-use Rattle.cayley.proofs.Searching.Listing.{Has}
-use Rattle.cayley.proofs.Searching.Members.{has_contains, contains_has, has_left, has_right, has_map}
+use Rattle.cayley.proofs.Searching.Listing.{Has, has-left, has-right, has-map}
+use Rattle.cayley.proofs.Searching.Members.{has_contains, contains_has}
 use Rattle.cayley.proofs.Searching.Shares.{true_of, list_has, no_share}
-use Rattle.cayley.proofs.Searching.Steps.{Keeps, Counts, weight, keeps_step, keeps_drop, inner_falls, drop_falls, counts_step, counts_drop, led_given, led_child}
+use Rattle.cayley.proofs.Searching.Steps.{Keeps, Counts, weight, keeps_step, keeps_drop, inner_falls, drop_falls, counts_step, counts_drop, led_given, led_child, each_in}
+use Rattle.cayley.specs.Stored.{cells_of}
+use Rattle.cayley.proofs.Order.Lined.{each_has}
 use Rattle.searcher.specs.declared.branches.Branch.{Branch}
 use Rattle.searcher.specs.declared.expansions.Expansion.{Expansion}
 use Rattle.searcher.specs.declared.expansions.Expansion.TheVariants.{Inner, Target, Endless, Stranger}
 use Rattle.searcher.specs.Branches.{branch_of, branches_of, children_of}
 use Rattle.searcher.specs.Workings.{FitsWorking}
 use Rattle.searcher.specs.Expansions.{IsExpansion, HasLowestNormal}
-use Rattle.searcher.specs.Searches.{IsLeft, IsCount, cells_of, opened, found_in, top}
+use Rattle.searcher.specs.Searches.{IsLeft, IsCount, opened, found_in, top}
 
 pub is_still_problem : (p : Problem) → IsValidProblem p → IsStill p → IsStillProblem p
 is_still_problem p valid still = record { problem = valid.shape.problem; ranks = valid.ranks; still = still; corners = valid.shape.moving }
@@ -126,29 +128,20 @@ pub turn_fit : (p : Problem) (b : Branch) (e : Expansion) → IsExpansion p b e 
 turn_fit p b e is found n = each_append (HasFit p) found (found_in e) n (fit_found p b e is)
 
 -- ---- the branches that are left
-pub each_in : {A : Type 0} (P : A → Type 0) (xs : List A) → ((x : A) → Has x xs → P x) → Each xs P
-each_in P [] f = tt
-each_in P (x ∷ xs) f = (f x (inl refl), each_in P xs (λ y h. f y (inr h)))
-
-pub in_each : {A : Type 0} (P : A → Type 0) (xs : List A) (x : A) → Each xs P → Has x xs → P x
-in_each P [] x e h = absurd h
-in_each P (y ∷ xs) x e (inl q) = subst P (sym q) e.0
-in_each P (y ∷ xs) x e (inr h) = in_each P xs x e.1 h
-
 pub left_begin : (p : Problem) (given : List Branch) → Each given (IsLeft p given)
 left_begin p given = each_in (IsLeft p given) given (λ b h. inl (has_contains given b h))
 
-led : (p : Problem) (given : List Branch) (b : Branch) → IsLeft p given b → IsLed p (branches_of given) (branch_of b)
-led p given b (inl c) = led_given p (branches_of given) (branch_of b) (has_map branch_of b given (contains_has given b c))
+pub led : (p : Problem) (given : List Branch) (b : Branch) → IsLeft p given b → IsLed p (branches_of given) (branch_of b)
+led p given b (inl c) = led_given p (branches_of given) (branch_of b) (has-map branch_of b given (contains_has given b c))
 led p given b (inr h) = h.1
 
 -- what a turn leaves to do begins where it says and follows the branch
 opened_after : (p : Problem) (given : List Branch) (b : Branch) (kids : List Branch) → IsChildren p b.cell (branches_of kids) → IsLeft p given b → (k : Branch) → Has k kids → IsLeft p given k
 opened_after p given b kids children l k h =
-    let there = has_map branch_of k kids h in inr (
-      in_each (IsTrueBranch p) (branches_of kids) (branch_of k) children.0 there,
+    let there = has-map branch_of k kids h in inr (
+      each_has (IsTrueBranch p) (branches_of kids) (branch_of k) children.0 there,
       led_child p (branches_of given) (branch_of b) (branch_of k)
-          (list_has (λ c. IsParent p b.cell c) (map (λ (x : shares.Branch). x.cell) (branches_of kids)) children.1 k.cell (has_map (λ (x : shares.Branch). x.cell) (branch_of k) (branches_of kids) there))
+          (list_has (λ c. IsParent p b.cell c) (map (λ (x : shares.Branch). x.cell) (branches_of kids)) children.1 k.cell (has-map (λ (x : shares.Branch). x.cell) (branch_of k) (branches_of kids) there))
           (led p given b l),
     )
 
@@ -159,10 +152,10 @@ opened_left p given b Endless h l = tt
 opened_left p given b (Stranger branch) h l = tt
 
 pub rest_left : (p : Problem) (given left rest : List Branch) (b : Branch) → left ≡ rest ++ b ∷ [] → Each left (IsLeft p given) → Each rest (IsLeft p given)
-rest_left p given left rest b popped l = each_in (IsLeft p given) rest (λ x h. in_each (IsLeft p given) left x l (subst (λ k. Has x k) (sym popped) (has_left x rest (b ∷ []) h)))
+rest_left p given left rest b popped l = each_in (IsLeft p given) rest (λ x h. each_has (IsLeft p given) left x l (subst (λ k. Has x k) (sym popped) (has-left x rest (b ∷ []) h)))
 
 pub last_left : (p : Problem) (given left rest : List Branch) (b : Branch) → left ≡ rest ++ b ∷ [] → Each left (IsLeft p given) → IsLeft p given b
-last_left p given left rest b popped l = in_each (IsLeft p given) left b l (subst (λ k. Has b k) (sym popped) (has_right b rest (b ∷ []) (inl refl)))
+last_left p given left rest b popped l = each_has (IsLeft p given) left b l (subst (λ k. Has b k) (sym popped) (has-right b rest (b ∷ []) (inl refl)))
 
 pub turn_left : (p : Problem) (given left rest : List Branch) (b : Branch) (e : Expansion) → left ≡ rest ++ b ∷ [] → IsExpansion p b e → Each left (IsLeft p given) → Each (rest ++ opened e) (IsLeft p given)
 turn_left p given left rest b e popped is l =

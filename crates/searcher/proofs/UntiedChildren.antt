@@ -5,7 +5,7 @@ use native.Mathlib.Decide.{ℕ_discrete}
 use Rattle.cayley.specs.Times.{Time}
 use Rattle.cayley.specs.Problems.{Point, Problem, IsProblem, point_at}
 use Rattle.cayley.specs.Cells.{Cell, EachPair, IsOf, IsIndependent, IsFurther}
-use Rattle.cayley.specs.Dependencies.{support_at, pair_at}
+use Rattle.cayley.specs.Dependencies.{pair_at, nth_support}
 use Rattle.cayley.specs.Flips.{lesser, greater}
 use Rattle.cayley.specs.Normals.{Normal, IsNormal, IsLevel, gap}
 use Rattle.cayley.specs.Parents.{ShareOne, DifferInOne, IsParent}
@@ -23,7 +23,7 @@ use Rattle.searcher.specs.Ends.{IsTiedAtBegin, IsTiedAtEnd}
 
 -- the point c of support j is further and level
 abbrev LevelIn : List (List Point) → Cell → Time → Normal → ℕ → ℕ → Type 0
-LevelIn supports cell t v j c = IsFurther (support_at supports j) (pair_at cell j).0 (pair_at cell j).1 c × IsLevel t v (support_at supports j) (pair_at cell j).0 c
+LevelIn supports cell t v j c = IsFurther (nth_support supports j) (pair_at cell j).0 (pair_at cell j).1 c × IsLevel t v (nth_support supports j) (pair_at cell j).0 c
 
 -- one of two positions is the new one
 rising_has : (a f : ℕ) → (f ≡ lesser a f) ⊎ (f ≡ greater a f)
@@ -123,8 +123,8 @@ module _ (p : Problem) (sigma tau : Cell) (well : IsProblem p) where
   -- what is level under one normal of the cell is level under each
   level_by : IsOf p tau → IsIndependent p tau → (t : Time) (v w : Normal) → IsNormal p tau t v → IsNormal p tau t w → (j c : ℕ) → IsLevelAt p tau t v j c → IsLevelAt p tau t w j c
   level_by of ind t v w nv nw j c h =
-      let a = point_at (support_at p.supports j) (pair_at tau j).0 in
-      let x = point_at (support_at p.supports j) c in
+      let a = point_at (nth_support p.supports j) (pair_at tau j).0 in
+      let x = point_at (nth_support p.supports j) c in
       let h0 = v.positive in
       (h.0, zero_in_proportion (gap t v a x) (gap t w a x) w.over v.over (λ z. omega (arith, ints, z, h0)) (gap_two p tau well of ind t v w nv nw a x) h.1)
 

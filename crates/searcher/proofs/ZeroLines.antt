@@ -3,6 +3,7 @@ use Rattle.std.proofs.Common.{◌≡◌, inl, inr, ℕ, ◌<◌, List, length, a
 use Rattle.std.proofs.lemmas.Int.{ints}
 use Rattle.wide_int.proofs.Order.{sign_cases}
 use Rattle.int_vectors.specs.Vectors.{IsZero, at}
+use Rattle.int_vectors.proofs.Entries.{not_zero}
 use Rattle.lex_height.specs.Order.{IsSame}
 use Rattle.lex_height.proofs.Comparing.{same_same, same_back, same_turned, less_not_back}
 use Rattle.cayley.specs.Times.{Time, IsBefore, IsSameTime}
@@ -13,7 +14,7 @@ use Rattle.crossing.specs.declared.leaders.Way.TheVariants.{Falling, Rising}
 use Rattle.crossing.specs.Leading.{nth, start, steep, Goes}
 use Rattle.crossing.specs.Lines.{value, ArePositive}
 use Rattle.crossing.specs.Places.{origin}
-use Rattle.crossing.proofs.Lists.{either, earlier_less, less_earlier, not_zero}
+use Rattle.crossing.proofs.Lists.{either, earlier_less, less_earlier}
 use Rattle.crossing.proofs.Values.{turn, zero_ratio, ratio_zero, zero_later, turned_less, level_start, level_value}
 
 -- ---- one line at two times that are the same

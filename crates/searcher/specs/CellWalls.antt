@@ -1,9 +1,8 @@
 -- What the walls of a cell tell, and what is read off its lines, for the inner functions; no public clause cites this.
-use Rattle.std.specs.Prelude.{◌≡◌, ◌↔◌, ℕ, ◌-◌, List, All, Option, Some, MatchOption, slice_index_or}
+use Rattle.std.specs.Prelude.{◌≡◌, ◌↔◌, ℕ, List, All, Option, Some, MatchOption}
 use Rattle.lex_height.specs.Values as lex
 use Rattle.cayley.specs.declared.found.Begin.{Begin}
 use Rattle.cayley.specs.declared.found.Begin.TheVariants as begin
-use Rattle.cayley.specs.declared.found.Place.{Place}
 use Rattle.cayley.specs.declared.found.TieProof.{TieProof}
 use Rattle.cayley.specs.Problems.{Problem}
 use Rattle.cayley.specs.Cells.{Cell}
@@ -13,7 +12,6 @@ use Rattle.crossing.specs.declared.entry.Entry.{Entry}
 use Rattle.crossing.specs.declared.entry.Entry.TheVariants as entry
 use Rattle.crossing.specs.Entries.{IsEntry}
 use Rattle.crossing.specs.Lines.{FitsLine}
-use Rattle.crossing.specs.Places.{origin}
 use Rattle.inner_normal.specs.declared.moving.MovingNormal.{MovingNormal}
 use Rattle.inner_normal.specs.Coefficients.{difference, FitsCoefficients}
 use Rattle.inner_normal.specs.Inverses.{Inverse, IsInverseOf}
@@ -21,6 +19,7 @@ use Rattle.inner_normal.specs.MovingNormals.{IsMovingNormal}
 use Rattle.cone_walls.specs.Lives.{IsNeverAlive, LivesBetween}
 use Rattle.cone_walls.specs.Places.{AreOfFurtherPoints}
 use Rattle.cone_walls.specs.Sides.{TellSides}
+use Rattle.cone_walls.specs.Ends.{place_at}
 use Rattle.searcher.specs.declared.branches.Branch.{Branch}
 use Rattle.searcher.specs.declared.expansions.Expansion.{Expansion}
 use Rattle.searcher.specs.Expansions.{IsOfKind, stranger, IsExpansion}
@@ -53,13 +52,6 @@ IsSaid (begin.At t) entry.Dead = ⊥
 abbrev pub IsLowestBegin : Begin → Type 0
 IsLowestBegin begin.Start = Unit {0}
 IsLowestBegin (begin.At t) = lex.IsLowest t
-
--- the place of the point of the line at a place
-abbrev pub place_at : List WallLine → ℕ → Place
-place_at lines which = record {
-  support = (slice_index_or lines (which - 1) origin).support;
-  position = (slice_index_or lines (which - 1) origin).position;
-}
 
 -- the tie of the points of two lines
 abbrev pub tie_between : Cell → List WallLine → lex.Value → ℕ → ℕ → TieProof

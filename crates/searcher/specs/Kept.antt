@@ -10,7 +10,7 @@ use Rattle.cayley.specs.Cells.{Cell}
 use Rattle.cayley.specs.Lives.{EndsAt}
 use Rattle.cayley.specs.Parents.{IsParent}
 use Rattle.cayley.specs.Dependencies.{Numbers, number_at, IsPositiveDependency}
-use Rattle.flip_rule.specs.Signs.{HaveSigns}
+use Rattle.cayley.specs.Signs.{HaveSigns}
 use Rattle.flip_rule.specs.Walls.{IsWall}
 use Rattle.searcher.specs.declared.branches.Branch.{Branch}
 

@@ -9,3 +9,4 @@ pub mod Searches
 pub mod Counts
 pub mod Passes
 pub mod Walks
+pub mod Turns

@@ -6,6 +6,7 @@ use Rattle.cayley.specs.Problems.{Problem}
 use Rattle.cayley.specs.Cells.{Cell, IsOf, IsLess}
 use Rattle.cayley.specs.Shares as shares
 use Rattle.cayley.specs.Shares.{IsTrueBranch, IsShare, IsSize, IsLed, GivesShares, GivesSizes, GivesCosts}
+use Rattle.cayley.specs.Stored.{cells_of}
 use Rattle.searcher.specs.declared.branches.Branch.{Branch}
 use Rattle.searcher.specs.declared.expansions.Expansion.{Expansion}
 use Rattle.searcher.specs.declared.expansions.Expansion.TheVariants.{Inner, Target, Endless, Stranger}
@@ -16,9 +17,6 @@ use Rattle.searcher.specs.declared.searching.Stopped.{Stopped}
 use Rattle.searcher.specs.Workings.{FitsWorking}
 use Rattle.searcher.specs.Branches.{branch_of, branches_of, children_of}
 use Rattle.searcher.specs.Expansions.{HasLowestNormal}
-
-abbrev pub cells_of : List FoundCell → List Cell
-cells_of found = map (λ (f : FoundCell). f.cell) found
 
 -- the branches that an expansion leaves to do
 abbrev pub opened : Expansion → List Branch

@@ -1,4 +1,4 @@
--- What a search keeps beside its branches, for the inner functions; no public clause cites this.
+-- What a searcher keeps beside its branches, and which branches need no elimination.
 use Rattle.std.specs.Prelude.{◌≡◌, IfSome, IsTrue, length}
 use Rattle.carried_inverse.specs.Systems.{IsInverseOfCell}
 use Rattle.cayley.specs.Problems.{Problem, version1}
@@ -11,7 +11,7 @@ use Rattle.searcher.specs.Branches.{branch_of}
 use Rattle.searcher.specs.Ends.{IsTiedAtBegin}
 use Rattle.searcher.specs.Workings.{FitsWorking}
 
--- a branch that the search made: a true one, whose cell isn't tied where it begins
+-- a branch that an expansion opened: a true one, whose cell isn't tied where it begins
 abbrev pub IsMade : Problem → Branch → Type 0
 IsMade p b = IsOf p b.cell × IsTrueBranch p (branch_of b) × ¬ (IsTiedAtBegin p b.cell)
 

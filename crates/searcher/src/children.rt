@@ -107,8 +107,9 @@ pub(crate) fn signs_at(
     }
 }
 
-// The children of the cell at the wall of one further point, where it ends, by the signs of its circuit.
-pub(crate) fn kept_by(
+/// The children of a cell at the wall of one further point, where it ends, by the signs of its
+/// circuit. It takes no memory.
+pub fn kept_by(
     problem: &Problem,
     cell: &Cell,
     signs: Signs,

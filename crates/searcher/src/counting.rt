@@ -3,14 +3,16 @@ ghost use Rattle.std.specs.Prelude.{◌≡◌, ◌+◌, ◌≤◌, ◌++◌, ℕ
 ghost use Rattle.cayley.specs.Problems.{IsStill};
 ghost use Rattle.cayley.specs.Ties.{IsTieFree};
 ghost use Rattle.searcher.specs.Expansions.{ShowsTieAtEnd, HasNoTie};
-ghost use Rattle.searcher.specs.Searches.{IsCount, opened, found_in, top};
+ghost use Rattle.searcher.specs.Searches.{IsCount, top};
+ghost use Rattle.searcher.specs.Turns.{list_of};
 ghost use Rattle.searcher.specs.Counts.{IsCounted, IsBehind, CountsShare, CountsSize};
 
 use crate::branches::Branch;
-use crate::expansions::{Expansion, HaltCause};
-use crate::searching::{count_after, put_children};
+use crate::expansions::HaltCause;
+use crate::searching::count_after;
+use crate::turning::turn;
 use crate::walks::Walk;
-use cayley::Problem;
+use cayley::{FoundCell, Problem};
 use cone_walls::Steps;
 use std::alloc::Global;
 use std::sync::ledger::Ledger;
@@ -23,20 +25,13 @@ pub struct Counted {
     pub solves: u64,
 }
 
-// Puts the children among the branches; the count of cells, with a mixed cell that was found.
-fn put_counting(left: &mut Vec<Branch>, cells: u64, expansion: Expansion) -> u64
-    requires { vec_len left.old + 2 ≤ vec_capacity left.old }
-    ensures left { left.new.items ≡ left.old.items ++ opened expansion }
-    ensures cells { (m : ℕ) → cells ≡ min m top → result ≡ min (m + length (found_in expansion)) top }
+// The count of cells, with a mixed cell that was found.
+fn cells_after(cells: u64, found: Option<FoundCell>) -> u64
+    ensures { (m : ℕ) → cells ≡ min m top → result ≡ min (m + length (list_of found)) top }
 {
-    match expansion {
-        Expansion::Inner { children } => {
-            put_children(left, children);
-            cells
-        }
-        Expansion::Target(_found) => cells.saturating_add(1),
-        Expansion::Endless => cells,
-        Expansion::Stranger { branch: _stranger } => cells,
+    match found {
+        Some(_found) => cells.saturating_add(1),
+        None => cells,
     }
 }
 
@@ -70,11 +65,10 @@ pub fn count_alone<L: Ledger>(
             return Err(HaltCause::OutOfMemory);
         }
         solves = count_after(problem, &branch, solves);
-        let expansion = match walk.expansion_of(alloc, problem, branch, count, steps) {
-            Ok(expansion) => expansion,
-            Err(halt) => return Err(halt.cause),
-        };
-        cells = put_counting(&mut left, cells, expansion);
+        match turn(&mut walk, alloc, problem, &branch, count, &mut left, steps) {
+            Ok(found) => cells = cells_after(cells, found),
+            Err(cause) => return Err(cause),
+        }
     }
     Ok(Counted { cells, solves })
 }

@@ -74,7 +74,7 @@ fn signs_anew(
 }
 
 // The signs at the pair of the circuit of the last cell and a further point.
-fn signs_by(
+pub(crate) fn signs_by(
     alloc: Global,
     problem: &Problem,
     last: &Last,

@@ -1,6 +1,6 @@
 ghost use Rattle.std.specs.Prelude.{◌≡◌, ◌↔◌, ◌<◌, ◌≤◌, ◌-◌, IfSome, IsTrue, length};
 ghost use Rattle.cayley.specs.Cells.{IsOf};
-ghost use Rattle.cayley.specs.Dependencies.{support_at};
+ghost use Rattle.cayley.specs.Dependencies.{nth_support};
 ghost use Rattle.searcher.specs.Walks.{IsLast};
 
 use carried_inverse::{Carried, Exchange};
@@ -21,7 +21,7 @@ pub(crate) struct Last {
 fn flipped(problem: &Problem, last: Last, support: u32, pair: (u32, u32)) -> Last
     requires last { IsLast problem.now last }
     requires support { (1 ≤ support) × (support ≤ problem.now.dimension) }
-    requires pair { (1 ≤ pair.0) × (pair.0 < pair.1) × (pair.1 ≤ length (support_at problem.now.supports (support - 1))) }
+    requires pair { (1 ≤ pair.0) × (pair.0 < pair.1) × (pair.1 ≤ length (nth_support problem.now.supports (support - 1))) }
     ensures { IsLast problem.now result }
 {
     // A problem is valid by its type, as its readers tell.

@@ -9,20 +9,25 @@ mod circuits;
 mod counting;
 mod endings;
 mod expansions;
+mod keeping;
 mod lasts;
 mod passing;
 mod searching;
 mod settling;
 mod targets;
 mod ties;
+mod turning;
 mod walks;
 
 pub use branches::Branch;
 pub use cayley::{Begin, FoundCell};
+pub use children::kept_by;
 pub use counting::{Counted, count_alone};
 pub use expansions::{Children, Expansion, Halt, HaltCause, expand};
 pub use passing::pass_until;
 pub use searching::{Found, Stopped, search_alone};
+pub use targets::has_file_points;
+pub use walks::Walk;
 
 #[cfg(test)]
 mod search_tests;

@@ -333,6 +333,9 @@ fn two_points_of_equal_height(rt: HostRuntime) -> Result<(), Fail> {
     if let HaltCause::Tie(proof) = &stopped.cause {
         assert!(rt; proof.cell.pairs() == [(3, 4)].as_slice());
     }
+    if let HaltCause::OutOfMemory = &stopped.cause {
+        return Err(OutOfMemory.into());
+    }
     assert!(rt; matches!(stopped.cause, HaltCause::Tie(_)));
     assert!(rt; stopped.left.len() == 1);
     for left in &stopped.left {
@@ -359,6 +362,9 @@ fn counts_without_the_cells(rt: HostRuntime) -> Result<(), Fail> {
     let Err(cause) = count(rt.alloc(), &level, just(rt.alloc(), start)?)? else {
         return Err(OutOfMemory.into());
     };
+    if let HaltCause::OutOfMemory = &cause {
+        return Err(OutOfMemory.into());
+    }
     assert!(rt; matches!(cause, HaltCause::Tie(_)));
     Ok(())
 }

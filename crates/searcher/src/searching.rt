@@ -1,3 +1,4 @@
+ghost use Rattle.cayley.specs.Stored.{cells_of};
 ghost use Rattle.std.specs.Prelude.{◌≡◌, ◌+◌, ◌≤◌, ◌++◌, IfOk, IfErr, IsTrue, MatchResult, IsPermutation, vec_len, vec_capacity};
 ghost use Rattle.int_vectors.specs.Vectors.{Each};
 ghost use Rattle.cayley.specs.Problems.{IsStill};
@@ -6,10 +7,12 @@ ghost use Rattle.cayley.specs.Ties.{IsTieFree};
 ghost use Rattle.searcher.specs.Branches.{branch_of, children_of};
 ghost use Rattle.searcher.specs.Workings.{FitsWorking};
 ghost use Rattle.searcher.specs.Expansions.{ShowsTieAtEnd, HasNoTie};
-ghost use Rattle.searcher.specs.Searches.{IsFound, IsStopped, IsCount, FindsShare, FindsSize, NeverFalls, cells_of, opened, found_in, top};
+ghost use Rattle.searcher.specs.Searches.{IsFound, IsStopped, IsCount, FindsShare, FindsSize, NeverFalls, top};
+ghost use Rattle.searcher.specs.Turns.{list_of};
 
 use crate::branches::Branch;
-use crate::expansions::{Children, Expansion, HaltCause};
+use crate::expansions::{Children, HaltCause};
+use crate::turning::turn;
 use crate::walks::Walk;
 use cayley::{FoundCell, Problem};
 use cone_walls::Steps;
@@ -62,20 +65,13 @@ pub fn put_children(left: &mut Vec<Branch>, children: Children)
     }
 }
 
-// Puts the children among the branches and a mixed cell among the cells.
-pub(crate) fn put(left: &mut Vec<Branch>, cells: &mut Vec<FoundCell>, expansion: Expansion)
-    requires branches { vec_len left.old + 2 ≤ vec_capacity left.old }
-    requires cell { vec_len cells.old + 1 ≤ vec_capacity cells.old }
-    ensures left { left.new.items ≡ left.old.items ++ opened expansion }
-    ensures cells { cells.new.items ≡ cells.old.items ++ found_in expansion }
+// Puts a mixed cell among the cells.
+fn put_found(cells: &mut Vec<FoundCell>, found: Option<FoundCell>)
+    requires { vec_len cells.old + 1 ≤ vec_capacity cells.old }
+    ensures { cells.new.items ≡ cells.old.items ++ list_of found }
 {
-    match expansion {
-        Expansion::Inner { children } => put_children(left, children),
-        Expansion::Target(found) => {
-            let _ = cells.push(found);
-        }
-        Expansion::Endless => {}
-        Expansion::Stranger { branch: _stranger } => {}
+    if let Some(found) = found {
+        let _ = cells.push(found);
     }
 }
 
@@ -140,18 +136,17 @@ pub fn search_alone<L: Ledger>(
             });
         }
         solves = count_after(problem, &branch, solves);
-        let expansion = match walk.expansion_of(alloc, problem, branch, count, steps) {
-            Ok(expansion) => expansion,
-            Err(halt) => {
-                let _ = left.push(halt.branch);
+        match turn(&mut walk, alloc, problem, &branch, count, &mut left, steps) {
+            Ok(found) => put_found(&mut cells, found),
+            Err(cause) => {
+                left.push_reserved(branch);
                 return Err(Stopped {
-                    cause: halt.cause,
+                    cause,
                     left,
                     found: Found { cells, solves },
                 });
             }
-        };
-        put(&mut left, &mut cells, expansion);
+        }
     }
     put_in_order(&mut cells);
     Ok(Found { cells, solves })

@@ -1,5 +1,6 @@
+ghost use Rattle.cone_walls.specs.Ends.{place_at};
 ghost use Rattle.std.specs.Prelude.{◌≡◌, ◌≤◌, length};
-ghost use Rattle.searcher.specs.CellWalls.{place_at, tie_between};
+ghost use Rattle.searcher.specs.CellWalls.{tie_between};
 
 use cayley::{Cell, Place, TieProof};
 use crossing::WallLine;

@@ -2,7 +2,8 @@ ghost use Rattle.std.specs.Prelude.{◌≡◌, ◌<◌};
 ghost use Rattle.cayley.specs.Problems.{IsStill};
 
 use crate::search_tests::{branch, found, normals, positions, support};
-use crate::searching::{has_room, put};
+use crate::searching::has_room;
+use crate::turning::put_opened;
 use crate::{Begin, Branch, Found, expand};
 use cayley::{Problem, Support};
 use cone_walls::Steps;
@@ -76,7 +77,9 @@ fn expanded<L: Ledger>(
         let Ok(expansion) = expand(alloc, problem, branch, &mut steps) else {
             return Err(OutOfMemory.into());
         };
-        put(&mut left, &mut cells, expansion);
+        if let Some(found) = put_opened(&mut left, expansion) {
+            cells.push(found)?;
+        }
     }
     cells.sort_unstable_by(|x, y| x.cell.cmp(&y.cell));
     Ok(Found { cells, solves })

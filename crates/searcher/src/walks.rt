@@ -1,8 +1,8 @@
-ghost use Rattle.std.specs.Prelude.{◌≡◌, ◌+◌, ◌≤◌, min, IfErr, IfSome, IsTrue, MatchResult};
+ghost use Rattle.std.specs.Prelude.{◌≡◌, ◌↔◌, ◌+◌, ◌≤◌, min, IfErr, IfSome, IsTrue, MatchResult};
 ghost use Rattle.cayley.specs.Cells.{IsOf};
 ghost use Rattle.cayley.specs.Problems.{IsStill};
 ghost use Rattle.cayley.specs.Ties.{IsTieFree};
-ghost use Rattle.searcher.specs.Expansions.{IsExpansion, IsHalt, ShowsTieAtEnd, HasNoTie};
+ghost use Rattle.searcher.specs.Expansions.{Kind, IsOfKind, IsAnswer, HasAnswer, IsExpansion, IsHalt, ShowsTieAtEnd, HasNoTie};
 ghost use Rattle.searcher.specs.Walks.{IsCarried, IsLast, IsMade, IsWalk};
 
 use crate::branches::Branch;
@@ -16,13 +16,16 @@ use std::alloc::Global;
 use std::mem;
 use std::sync::ledger::Ledger;
 
-// What a search keeps beside its branches. Those that it was given stand first, and are expanded by
-// an elimination; of those that it made no entry is formed.
+/// What a searcher keeps beside its branches: the inverse of the cell that it expanded last, from
+/// which the next one is reached by exchanges. Where `cell_bound::every_cell_fits` tells of a
+/// problem of version 1 that the working of each cell fits, a branch that an expansion opened is
+/// expanded with no elimination, and its entry isn't formed.
 #[derive(Drop)]
-pub(crate) struct Walk {
+pub struct Walk {
     // Whether the working of each cell fits, and the heights have no infinitesimals.
     pub(crate) carries: bool,
-    // No fewer than the given branches that are left.
+    // No fewer than the given branches that are left, where a search counts them. They stand first,
+    // and are expanded by an elimination.
     pub(crate) given: usize,
     pub(crate) last: Option<Last>,
 }
@@ -33,7 +36,7 @@ fn carries(problem: &Problem) -> bool
     problem.version() == 1 && every_cell_fits(problem)
 }
 
-fn lesser(a: usize, b: usize) -> usize
+pub(crate) fn lesser(a: usize, b: usize) -> usize
     ensures { result ≡ min a b }
 {
     if a < b { a } else { b }
@@ -71,6 +74,37 @@ fn carried_on<L: Ledger>(
 }
 
 impl Walk {
+    /// A walk that has expanded no cell yet.
+    pub fn new(problem: &Problem) -> Walk
+        ensures { IsWalk problem.now result }
+    {
+        Walk::begin(problem, 0)
+    }
+
+    /// Expands a branch that an expansion of this problem opened, by whichever walk. The answers are
+    /// those of [`expand`](crate::expand).
+    pub fn expand_made<L: Ledger>(
+        &mut self,
+        alloc: Global,
+        problem: &Problem,
+        branch: Branch,
+        steps: &mut Steps<L>,
+    ) -> Result<Expansion, Halt>
+        requires still { IsStill problem.now }
+        requires walk { IsWalk problem.now self.old }
+        requires made { IsMade problem.now branch }
+        ensures walk { IsWalk problem.now self.new }
+        ensures answer { MatchResult result (IsExpansion problem.now branch) (IsHalt problem.now branch) }
+        ensures exactly { HasAnswer result → (kind : Kind) → IsAnswer kind result ↔ IsOfKind problem.now branch kind }
+        ensures tie { IfErr result (λ halt. ShowsTieAtEnd problem.now halt.cause) }
+        ensures untied { IsTieFree problem.now → IfErr result (λ halt. HasNoTie halt.cause) }
+        ensures step { IsOf problem.now branch.cell → steps.new ≡ steps.old + 1 }
+        ensures no_step { ¬ (IsOf problem.now branch.cell) → steps.new ≡ steps.old }
+    {
+        let count = self.given;
+        self.expansion_of(alloc, problem, branch, count, steps)
+    }
+
     // A walk from this many given branches.
     pub(crate) fn begin(problem: &Problem, given: usize) -> Walk
         ensures walk { IsWalk problem.now result }

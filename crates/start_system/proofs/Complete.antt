@@ -1,3 +1,3 @@
 -- the search from the start cell misses nothing
-pub mod Chains
+mod Chains
 pub mod Shares

@@ -1,9 +1,8 @@
 pub mod Path
-pub mod Early
-pub mod Late
-pub mod Complete
-pub mod Perturbed
+mod Early
+mod Complete
+mod Perturbed
 pub mod Started
 pub mod Making
-pub mod Judging
+mod Judging
 mod Worked

@@ -3,7 +3,7 @@ pub mod Entries
 pub mod Numbers
 pub mod Least
 pub mod Directions
-pub mod Limits
+mod Limits
 pub mod Parts
 pub mod ValidPaths
 pub mod NoFaults

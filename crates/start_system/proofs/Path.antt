@@ -6,3 +6,4 @@ pub mod Hull
 pub mod Numbering
 pub mod Supports
 pub mod Forms
+pub mod Still

@@ -1,6 +1,6 @@
 -- the path of a file of version 2 is tie free
-pub mod Ranks
-pub mod Functionals
-pub mod Indicators
-pub mod Sums
+mod Ranks
+mod Functionals
+mod Indicators
+mod Sums
 pub mod TieFree

@@ -1,6 +1,6 @@
 ghost use Rattle.std.specs.Prelude.{◌≡◌, ◌≢◌, ◌<◌, ◌≤◌, ◌-◌, ◌↔◌, ◌≤ℤ◌, pos, suc, IsTrue, length};
 ghost use Rattle.int_vectors.specs.Vectors.{Each, at};
-ghost use Rattle.cayley.specs.Paths.{least_coordinates, reach};
+ghost use Rattle.cayley.specs.Paths.{least_coordinates, simplex_edge};
 ghost use Rattle.cayley.specs.Stored.{point};
 ghost use Rattle.cayley.specs.Valid.{IsCoordinate, IsValidProblem, file_count_at, support_at};
 ghost use Rattle.start_system.specs.Corners.{points_at, first_corner_at, IsFirstOf, IsDirectionOf, HasPathCorners};
@@ -54,7 +54,7 @@ fn reach(problem: &Problem, i: u32, m: &IntVec) -> i128
     requires greatest { i ≤ problem.now.dimension }
     requires length { length m.now ≡ problem.now.dimension }
     requires small { Each m.now IsCoordinate }
-    ensures value { result ≡ reach m.now (points_at problem.now i) }
+    ensures value { result ≡ simplex_edge m.now (points_at problem.now i) }
     ensures least { pos 1 ≤ℤ result }
     ensures greatest { result ≤ℤ pos 32000000 }
 {

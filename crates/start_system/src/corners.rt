@@ -1,7 +1,7 @@
 ghost use Rattle.std.specs.Prelude.{◌≡◌, ◌<◌, ◌≤◌, ◌-◌, ◌++◌, ◌≤ℤ◌, pos, suc, IfOk, OnOk, length, map, take};
 ghost use Rattle.int_vectors.specs.Vectors.{Each, at};
 ghost use Rattle.cayley.specs.Files.{resting};
-ghost use Rattle.cayley.specs.Paths.{least_coordinates, reach, corner, direction_corners, corners};
+ghost use Rattle.cayley.specs.Paths.{least_coordinates, simplex_edge, corner, direction_corners, corners};
 ghost use Rattle.cayley.specs.Stored.{file_point, point};
 ghost use Rattle.cayley.specs.Valid.{IsCoordinate};
 ghost use Rattle.start_system.specs.Corners.{ArePoints};
@@ -45,7 +45,7 @@ fn reach(dim: usize, points: &[FilePoint], m: &IntVec) -> i128
     requires points { ArePoints dim (map file_point points.now) }
     requires length { length m.now ≡ dim }
     requires small { Each m.now IsCoordinate }
-    ensures value { result ≡ reach m.now (map file_point points.now) }
+    ensures value { result ≡ simplex_edge m.now (map file_point points.now) }
     ensures least { pos 1 ≤ℤ result }
     ensures greatest { result ≤ℤ pos 32000000 }
 {

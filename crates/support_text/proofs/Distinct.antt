@@ -1,12 +1,14 @@
 -- Points that are new where they stand are distinct, and the other way round.
-use Rattle.std.proofs.Common.{◌≡◌, ◌≢◌, ◌||◌, inl, inr, ℕ, zero, suc, ◌<◌, ◌≤◌, Bool, true, false, ℤ, List, [], ◌∷◌, ◌++◌, map, length, refl, sym, ap, subst, ◌∙◌, append_assoc, arith, length-append}
+use Rattle.std.proofs.Common.{◌≡◌, ◌≢◌, inl, inr, ℕ, zero, suc, ◌<◌, ◌≤◌, Bool, true, false, ℤ, List, [], ◌∷◌, ◌++◌, map, length, refl, sym, ap, subst, ◌∙◌, append_assoc, arith, length-append}
 use Rattle.std.specs.Prelude.{slice_index_or}
 use Rattle.std.specs.Ordering.{int_eq}
 use Rattle.std.specs.Cmp.Lexicographic.{pointwise}
 use Rattle.std.specs.Cmp.Rules.{signed_items}
 use Rattle.std.proofs.lemmas.Bool.{cases_lt}
+use Rattle.line_text.proofs.TokenLemmas.{neither}
 use Rattle.cayley.specs.Files.{FilePoint}
 use Rattle.cayley.specs.Valid.{AreDistinct}
+use Rattle.cayley.proofs.Lists.Each.{no_both}
 use Rattle.support_text.specs.ProblemText.{is_among}
 use Rattle.support_text.proofs.Kept.{KeepsEach}
 
@@ -16,20 +18,13 @@ coords x = x.coordinates
 abbrev pub IsNew : List FilePoint → FilePoint → Type 0
 IsNew before x = is_among x.coordinates before ≡ false
 
-neither : (a b : Bool) → (a || b) ≡ false → (a ≡ false) × (b ≡ false)
-neither true b h = absurd cc
-neither false b h = (refl, h)
-
 not_true : (b : Bool) → (b ≡ true → ⊥) → b ≡ false
 not_true true f = absurd (f refl)
 not_true false f = refl
 
-unlike : (b : Bool) → b ≡ true → b ≡ false → ⊥
-unlike b p q = cc
-
 not_among_at : (c : List ℤ) (ps : List FilePoint) (k : ℕ) → is_among c ps ≡ false → k < length ps → slice_index_or (map coords ps) k [] ≢ c
 not_among_at c [] k h lt = absurd (omega arith)
-not_among_at c (p ∷ ps) zero h lt = λ e. unlike (pointwise int_eq p.coordinates c) ((signed_items p.coordinates c).1 e) (neither (pointwise int_eq p.coordinates c) (is_among c ps) h).0
+not_among_at c (p ∷ ps) zero h lt = λ e. no_both (pointwise int_eq p.coordinates c) ((signed_items p.coordinates c).1 e) (neither (pointwise int_eq p.coordinates c) (is_among c ps) h).0
 not_among_at c (p ∷ ps) (suc k) h lt = not_among_at c ps k (neither (pointwise int_eq p.coordinates c) (is_among c ps) h).1 (omega arith)
 
 among_none : (c : List ℤ) (ps : List FilePoint) → ((k : ℕ) → k < length ps → slice_index_or (map coords ps) k [] ≢ c) → is_among c ps ≡ false

@@ -1,45 +1,41 @@
 -- The canonical text of a valid file means the file.
-use Rattle.std.proofs.Common.{◌≡◌, ℕ, ◌-◌, ◌^◌, ◌<◌, ◌≤◌, ℤ, pos, negsuc, List, [], ◌∷◌, ◌++◌, map, length, Option, Some, None, Ok, refl, subst, arith, length-append, lit<}
-use Rattle.std.specs.Prelude.{MatchOption, codes, decimal, FitsSigned, flat_map, unsigned_abs}
+use Rattle.std.proofs.Common.{◌≡◌, ℕ, ◌-◌, ◌^◌, ◌<◌, ◌≤◌, ℤ, pos, List, [], ◌∷◌, ◌++◌, map, length, Option, Some, None, refl, arith, length-append, lit<, Ok, subst}
+use Rattle.std.specs.Prelude.{MatchOption, codes, decimal, FitsSigned, flat_map}
 use Rattle.std.specs.Int.{w128}
 use Rattle.std.specs.Fmt.{signed_decimal}
 use Rattle.std.proofs.lemmas.Int.{ints}
 use Rattle.int_vectors.specs.Vectors.{Each}
+use Rattle.line_text.specs.Lines.{lines_of, end_line_of}
 use Rattle.cayley.specs.Problems.{Version, version1, version2}
 use Rattle.cayley.specs.Files.{File, FilePoint}
 use Rattle.cayley.specs.Valid.{IsCoordinate, IsStart, IsWithinFile, AreDistinct, IsValidFile}
-use Rattle.line_text.specs.Lines.{lines_of, end_line_of}
+use Rattle.cayley.proofs.Lists.Each.{each_append, each_both}
 use Rattle.support_text.specs.Words.{Text, words}
-use Rattle.support_text.specs.ProblemText.{problem_at, no_line, problem_of}
 use Rattle.support_text.specs.Writing.{point_words, support_lines, start_words, start_lines, version_text, problem_lines, problem_text}
 use Rattle.support_text.proofs.Kept.{KeepsEach, IsNewPoint}
 use Rattle.support_text.proofs.Distinct.{IsNew, new_from}
 use Rattle.support_text.proofs.ValidFiles.{IsReadSupport, AreStarts}
-use Rattle.support_text.proofs.ReadBack.{AreLines, lines_are, IsReadFile, file_again}
-use Rattle.support_text.proofs.WrittenWords.{IsWord, IsLine, plain_word, mark_word, number_word, lines_again, each-append, each-map, each-flat}
+use Rattle.support_text.proofs.ReadBack.{IsReadFile, width, AreLines, lines_are, file_again}
+use Rattle.support_text.proofs.WrittenWords.{IsWord, IsLine, plain_word, mark_word, number_word, each-map, each-flat, lines_again}
+use Rattle.support_text.specs.ProblemText.{problem_at, no_line, problem_of}
 
 -- ---- the words of a file
-
-pub small_fits : (z : ℤ) (limit : ℕ) → unsigned_abs z ≤ limit → limit < 2 ^ 127 → FitsSigned w128 z
-small_fits (pos n) limit h lt = record { sfits = omega (arith, ints) }
-small_fits (negsuc n) limit h lt = record { sfits = omega (arith, ints) }
-
 pub count_word : (n limit : ℕ) → n ≤ limit → limit < 2 ^ 127 → IsWord (decimal n)
 count_word n limit h lt = number_word (pos n) (record { sfits = omega arith })
 
 start_fits : (z : ℤ) → IsStart z → FitsSigned w128 z
-start_fits z h = small_fits z 1000000000 (omega (arith, ints)) (lit< tt)
+start_fits z h = width z 1000000000 (omega (arith, ints)) (lit< tt)
 
 some_behind : (ws vs : List Text) → 0 < length vs → 0 < length (ws ++ vs)
 some_behind ws vs h = omega (arith, length-append ws vs)
 
 point_is_line : (x : FilePoint) → IsWithinFile x → IsLine (point_words x)
 point_is_line x h =
-    let coords = each-map IsWord IsCoordinate signed_decimal (λ z p. number_word z (small_fits z 1000000 p (lit< tt))) x.coordinates h.0 in
+    let coords = each-map IsWord IsCoordinate signed_decimal (λ z p. number_word z (width z 1000000 p (lit< tt))) x.coordinates h.0 in
     let colon : IsWord (codes ":") = mark_word 58 refl refl in
-    let height = number_word x.height (small_fits x.height 1000000000 h.1 (lit< tt)) in (
+    let height = number_word x.height (width x.height 1000000000 h.1 (lit< tt)) in (
       some_behind (map signed_decimal x.coordinates) (codes ":" ∷ signed_decimal x.height ∷ []) (omega arith),
-      each-append IsWord (map signed_decimal x.coordinates) (codes ":" ∷ signed_decimal x.height ∷ []) coords (colon, (height, tt)),
+      each_append IsWord (map signed_decimal x.coordinates) (codes ":" ∷ signed_decimal x.height ∷ []) coords (colon, (height, tt)),
     )
 
 -- a support of which the words are known
@@ -77,8 +73,8 @@ file_lines file valid =
     let size = count_word file.dimension 16 valid.shape.dimension.1 (lit< tt) in
     let supports = each-flat IsLine IsPlainSupport support_lines (λ s p. support_are_lines s p) file.supports (plain_supports file.supports valid.shape.counts valid.limits) in
     let starts = starts_are_lines file.starts valid.starts in
-    let body = each-append IsLine (flat_map support_lines file.supports ++ start_lines file.starts) ((codes "end" ∷ []) ∷ [])
-    (each-append IsLine (flat_map support_lines file.supports) (start_lines file.starts) supports starts) ((omega arith, (last, tt)), tt) in
+    let body = each_append IsLine (flat_map support_lines file.supports ++ start_lines file.starts) ((codes "end" ∷ []) ∷ [])
+    (each_append IsLine (flat_map support_lines file.supports) (start_lines file.starts) supports starts) ((omega arith, (last, tt)), tt) in
     ((omega arith, (header, (version_is_word file.version, tt))), ((omega arith, (dim, (size, tt))), body))
 
 -- ---- a valid file is one that is read
@@ -92,14 +88,10 @@ read_supports : (n : ℕ) (ss : List (List FilePoint)) → Each ss (λ s. (1 ≤
 read_supports n [] h k l m = tt
 read_supports n (s ∷ ss) h k l m = ((h.0.0, h.0.1, new_points n [] s k.0 l.0 (new_from s m.0)), read_supports n ss h.1 k.1 l.1 m.1)
 
-both_each : {A : Type 0} (P Q : A → Type 0) (xs : List A) → Each xs P → Each xs Q → Each xs (λ x. P x × Q x)
-both_each P Q [] h k = tt
-both_each P Q (x ∷ xs) h k = ((h.0, k.0), both_each P Q xs h.1 k.1)
-
 read_starts : (n : ℕ) (starts : Option (List (List ℤ))) → MatchOption starts (Unit {0}) (λ (l : List (List ℤ)). (length l ≡ n) × Each l (λ s. length s ≡ n - 1))
     → MatchOption starts (Unit {0}) (λ (l : List (List ℤ)). Each l (λ s. Each s IsStart)) → AreStarts n starts
 read_starts n None h k = tt
-read_starts n (Some l) h k = (h.0, both_each (λ (s : List ℤ). length s ≡ n - 1) (λ (s : List ℤ). Each s IsStart) l h.1 k)
+read_starts n (Some l) h k = (h.0, each_both (λ (s : List ℤ). length s ≡ n - 1) (λ (s : List ℤ). Each s IsStart) l h.1 k)
 
 pub valid_is_read : (file : File) → IsValidFile file → IsReadFile file
 valid_is_read file valid = record {

@@ -18,7 +18,7 @@ use Rattle.support_text.specs.ProblemText.{counting_line, coordinate, coordinate
 use Rattle.support_text.proofs.Numbers.{IsWithin}
 use Rattle.support_text.proofs.Series.{bind_ok, ok_is}
 
-int_le_is : (x y : ℤ) → int_le x y ≡ true → x ≤ℤ y
+pub int_le_is : (x y : ℤ) → int_le x y ≡ true → x ≤ℤ y
 int_le_is x y h = grind (arith, ints)
 
 abbrev found : ℤ → Result ℤ BadNumber

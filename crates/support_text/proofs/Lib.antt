@@ -1,9 +1,9 @@
 pub mod Numbers
 pub mod Series
-pub mod SeenPoints
-pub mod PointLines
+mod SeenPoints
+mod PointLines
 pub mod Kept
-pub mod Distinct
+mod Distinct
 pub mod ValidFiles
 pub mod ReadProblem
 pub mod ReadBack

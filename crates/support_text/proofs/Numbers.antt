@@ -11,10 +11,10 @@ use Rattle.line_text.proofs.NumberLemmas.{number_inside, written_number, written
 abbrev pub IsWithin : ℤ → ℤ → ℤ → Type 0
 IsWithin low high z = (low ≤ℤ z) × (z ≤ℤ high)
 
-int_le_true : (x y : ℤ) → x ≤ℤ y → int_le x y ≡ true
+pub int_le_true : (x y : ℤ) → x ≤ℤ y → int_le x y ≡ true
 int_le_true x y h = grind (arith, ints)
 
-both_are : (a b : Bool) → a ≡ true → b ≡ true → (a && b) ≡ true
+pub both_are : (a b : Bool) → a ≡ true → b ≡ true → (a && b) ≡ true
 both_are a b p q = rw (p, q) refl
 
 pub number_in_text : (low high z : ℤ) → IsWithin low high z → FitsSigned w128 z → number_in low high (signed_decimal z) ≡ Ok z

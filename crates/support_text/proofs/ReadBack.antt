@@ -1,5 +1,5 @@
 -- What is written is read: words, lines, points, supports, files.
-use Rattle.std.proofs.Common.{◌≡◌, ℕ, ◌-◌, ◌^◌, ◌<◌, ◌≤◌, ℤ, pos, negsuc, neg_ℤ, List, [], ◌∷◌, ◌++◌, map, length, Option, Some, None, Ok, refl, sym, ap, subst, ◌∙◌, append_assoc, append-nil, arith, lit<}
+use Rattle.std.proofs.Common.{◌≡◌, ℕ, ◌-◌, ◌^◌, ◌<◌, ◌≤◌, ℤ, pos, negsuc, neg_ℤ, List, [], ◌∷◌, ◌++◌, map, length, Option, Some, None, Ok, refl, ap, subst, ◌∙◌, append_assoc, append-nil, arith, lit<}
 use Rattle.std.specs.Prelude.{decimal, codes, FitsSigned, flat_map, unsigned_abs}
 use Rattle.std.specs.Int.{w128}
 use Rattle.std.specs.Fmt.{signed_decimal}
@@ -97,7 +97,7 @@ line_chain write (x ∷ xs) rows rest h = (h.1, (h.0, h.1, h.2, h.3, refl), line
 
 -- ---- points
 
-width : (z : ℤ) (n : ℕ) → unsigned_abs z ≤ n → n < 2 ^ 127 → FitsSigned w128 z
+pub width : (z : ℤ) (n : ℕ) → unsigned_abs z ≤ n → n < 2 ^ 127 → FitsSigned w128 z
 width (pos k) n h lt = record { sfits = omega (arith, ints) }
 width (negsuc k) n h lt = record { sfits = omega (arith, ints) }
 
@@ -144,7 +144,7 @@ points_each n end before (x ∷ xs) h = (
 
 -- ---- supports
 
-natural_width : (k limit : ℕ) → k ≤ limit → limit < 2 ^ 127 → FitsSigned w128 (pos k)
+pub natural_width : (k limit : ℕ) → k ≤ limit → limit < 2 ^ 127 → FitsSigned w128 (pos k)
 natural_width k limit h lt = record { sfits = omega arith }
 
 pub counting_again : (text : Text) (limit : ℕ) (kind : Kind) (k : ℕ) → 1 ≤ k → k ≤ limit → limit < 2 ^ 127 → ReadsWords (counting_line text (pos limit) kind) (text ∷ decimal k ∷ []) k

@@ -1,8 +1,9 @@
 -- A set with the coordinates of the points, and of one point more.
-use Rattle.std.proofs.Common.{◌≡◌, ◌||◌, Bool, true, false, cond, ℤ, List, [], ◌∷◌, ◌++◌, refl, sym, ap, ◌∙◌, BTreeSet, is_eq, int_cmp, int_eq}
+use Rattle.std.proofs.Common.{◌≡◌, ◌||◌, Bool, true, cond, ℤ, List, [], ◌∷◌, ◌++◌, refl, sym, ap, ◌∙◌, BTreeSet, is_eq, int_cmp, int_eq}
 use Rattle.std.specs.Global.{Vec}
 use Rattle.std.specs.Cmp.Lexicographic.{slice_cmp, pointwise, lists_ties}
 use Rattle.std.specs.BTreeSet.{contains, Updates}
+use Rattle.wide_int.proofs.Bools.{last_test, next_test}
 use Rattle.cayley.specs.Files.{FilePoint}
 use Rattle.support_text.specs.ProblemText.{is_among}
 use Rattle.support_text.specs.Seen.{coordinates_cmp, HasCoordinatesOf}
@@ -10,16 +11,6 @@ use Rattle.support_text.specs.Seen.{coordinates_cmp, HasCoordinatesOf}
 -- the order tells the same lists apart as the test
 one_test : (xs ys : List ℤ) → is_eq (slice_cmp int_cmp xs ys) ≡ pointwise int_eq xs ys
 one_test xs ys = sym (lists_ties int_cmp (λ x y. refl) xs ys)
-
-last_test : (b : Bool) → (b || false) ≡ cond b true false
-last_test true = refl
-last_test false = refl
-
-next_test : (a b c : Bool) → (a || cond b true c) ≡ cond b true (a || c)
-next_test true true c = refl
-next_test true false c = refl
-next_test false true c = refl
-next_test false false c = refl
 
 among_more : (xs : List ℤ) (points : List FilePoint) (x : FilePoint) → is_among xs (points ++ x ∷ []) ≡ cond (pointwise int_eq x.coordinates xs) true (is_among xs points)
 among_more xs [] x = last_test (pointwise int_eq x.coordinates xs)

@@ -29,10 +29,10 @@ pub bind_ok : {A B : Type 0} (r : Reading A) (f : A → Reading B) (y : B) → (
 bind_ok (Ok x) f y e = (x, refl, e)
 bind_ok (Err d) f y e = absurd cc
 
-abbrev failed : {A : Type 0} → FormatFault → Reading A
+abbrev pub failed : {A : Type 0} → FormatFault → Reading A
 failed e = Err e
 
-err_is : {A : Type 0} (d e : FormatFault) → failed {A = A} d ≡ failed e → d ≡ e
+pub err_is : {A : Type 0} (d e : FormatFault) → failed {A = A} d ≡ failed e → d ≡ e
 err_is d e h = cc
 
 -- the fault of the first of two steps, where the second never fails

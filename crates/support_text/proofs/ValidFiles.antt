@@ -1,11 +1,12 @@
 -- What is read keeps the limits: supports, start lines and files.
-use Rattle.std.proofs.Common.{◌≡◌, ℕ, ◌-◌, ◌≤◌, ℤ, List, [], ◌∷◌, map, length, Option, Some, None, Ok, refl, sym, ap, subst, arith}
+use Rattle.std.proofs.Common.{◌≡◌, ℕ, ◌-◌, ◌≤◌, ℤ, List, [], ◌∷◌, map, length, Option, Some, None, Ok, sym, ap, subst, arith}
 use Rattle.std.specs.Prelude.{MatchOption, codes}
 use Rattle.int_vectors.specs.Vectors.{Each}
 use Rattle.cayley.specs.Problems.{Version}
 use Rattle.cayley.specs.Files.{FilePoint}
 use Rattle.cayley.specs.Valid.{IsStart, IsWithinFile, AreDistinct, IsValidFile}
 use Rattle.line_text.specs.Lines.{Row}
+use Rattle.cayley.proofs.Lists.Each.{each_weaker}
 use Rattle.support_text.specs.declared.fault.Kind.TheVariants.{Extra, Count, Dim}
 use Rattle.support_text.specs.declared.opening.Opening.{Opening}
 use Rattle.support_text.specs.declared.opening.Opening.TheVariants.{End as Opens_end, Start as Opens_start, Other}
@@ -79,19 +80,14 @@ ending_within n end [] x some e = absurd cc
 ending_within n end (row ∷ rows) x some e = ending_of_within n end row.number (opening (words row)).0 (opening (words row)).1 rows x some e
 
 -- ---- the file
-
-each_map : {A : Type 0} (P Q : A → Type 0) (xs : List A) → ((x : A) → P x → Q x) → Each xs P → Each xs Q
-each_map P Q [] f h = tt
-each_map P Q (x ∷ xs) f h = (f x h.0, each_map P Q xs f h.1)
-
 starts_shape : (n : ℕ) (starts : Option (List (List ℤ))) → AreStarts n starts
     → MatchOption starts (Unit {0}) (λ (l : List (List ℤ)). (length l ≡ n) × Each l (λ s. length s ≡ n - 1))
 starts_shape n None h = tt
-starts_shape n (Some l) h = (h.0, each_map (IsStartLine n) (λ s. length s ≡ n - 1) l (λ s p. p.0) h.1)
+starts_shape n (Some l) h = (h.0, each_weaker (IsStartLine n) (λ s. length s ≡ n - 1) l (λ s p. p.0) h.1)
 
 starts_limits : (n : ℕ) (starts : Option (List (List ℤ))) → AreStarts n starts → MatchOption starts (Unit {0}) (λ (l : List (List ℤ)). Each l (λ s. Each s IsStart))
 starts_limits n None h = tt
-starts_limits n (Some l) h = each_map (IsStartLine n) (λ s. Each s IsStart) l (λ s p. p.1) h.1
+starts_limits n (Some l) h = each_weaker (IsStartLine n) (λ s. Each s IsStart) l (λ s p. p.1) h.1
 
 pub file_within : (v : Version) (n : ℕ) (supports : List (List FilePoint)) (starts : Option (List (List ℤ))) → (1 ≤ n) × (n ≤ 16) → (length supports ≡ n) × Each supports (IsReadSupport n) → AreStarts n starts
     → IsValidFile (record { version = v; dimension = n; supports = supports; starts = starts })
@@ -99,13 +95,13 @@ file_within v n supports starts dim s t = record {
   shape = record {
     dimension = dim;
     supports = s.0;
-    counts = each_map (IsReadSupport n) (λ l. (1 ≤ length l) × (length l ≤ 1000)) supports (λ l p. (p.0, p.1)) s.1;
-    points = each_map (IsReadSupport n) (λ l. Each l (λ (x : FilePoint). length x.coordinates ≡ n)) supports
+    counts = each_weaker (IsReadSupport n) (λ l. (1 ≤ length l) × (length l ≤ 1000)) supports (λ l p. (p.0, p.1)) s.1;
+    points = each_weaker (IsReadSupport n) (λ l. Each l (λ (x : FilePoint). length x.coordinates ≡ n)) supports
         (λ l p. each_of (λ (x : FilePoint). length x.coordinates ≡ n) (IsNewPoint n) (λ before x q. q.0) [] l p.2) s.1;
     starts = starts_shape n starts t;
   };
-  limits = each_map (IsReadSupport n) (λ l. Each l IsWithinFile) supports (λ l p. each_of IsWithinFile (IsNewPoint n) (λ before x q. q.1) [] l p.2) s.1;
-  distinct = each_map (IsReadSupport n) (λ l. AreDistinct (map (λ (x : FilePoint). x.coordinates) l)) supports
+  limits = each_weaker (IsReadSupport n) (λ l. Each l IsWithinFile) supports (λ l p. each_of IsWithinFile (IsNewPoint n) (λ before x q. q.1) [] l p.2) s.1;
+  distinct = each_weaker (IsReadSupport n) (λ l. AreDistinct (map (λ (x : FilePoint). x.coordinates) l)) supports
       (λ l p. distinct_from l (kept_of IsNew (IsNewPoint n) (λ before x q. q.2) [] l p.2)) s.1;
   starts = starts_limits n starts t;
 }

@@ -12,10 +12,6 @@ use Rattle.support_text.specs.Writing.{point_words, support_lines, start_words, 
 pub text_append : (xs ys : List (List Text)) → text_of (xs ++ ys) ≡ text_of xs ++ text_of ys
 text_append xs ys = flat_map-append (λ ws. join_with_byte 32 ws ++ 10 ∷ []) xs ys
 
-pub text_flat : {A : Type 0} (f : A → List (List Text)) (xs : List A) → text_of (flat_map f xs) ≡ flat_map (λ x. text_of (f x)) xs
-text_flat f [] = refl
-text_flat f (x ∷ xs) = text_append (f x) (flat_map f xs) ∙ ap (λ t. text_of (f x) ++ t) (text_flat f xs)
-
 pub text_each : {A : Type 0} (f : A → List Text) (xs : List A) → flat_map (λ x. text_of (f x ∷ [])) xs ≡ text_of (map f xs)
 text_each f [] = refl
 text_each f (x ∷ xs) = ap₂ (λ s t. s ++ t) (append-nil (join_with_byte 32 (f x) ++ 10 ∷ [])) (text_each f xs)

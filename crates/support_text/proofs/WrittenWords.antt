@@ -1,5 +1,5 @@
 -- The lines of a text are those whose words were written.
-use Rattle.std.proofs.Common.{◌≡◌, ℕ, ◌+◌, ◌<◌, ◌&&◌, Bool, true, false, not, ℤ, List, [], ◌∷◌, ◌++◌, map, length, refl, sym, ap, ◌∙◌, append_assoc, append-nil, arith}
+use Rattle.std.proofs.Common.{◌≡◌, ℕ, ◌+◌, ◌<◌, true, false, not, ℤ, List, [], ◌∷◌, ◌++◌, map, length, refl, sym, ap, ◌∙◌, append_assoc, append-nil, arith}
 use Rattle.std.specs.Prelude.{FitsSigned, flat_map}
 use Rattle.std.specs.Int.{w128}
 use Rattle.std.specs.List.{join_with_byte, list_all}
@@ -12,7 +12,9 @@ use Rattle.line_text.proofs.TokenLemmas.{blank_step, mark_step, run_before, no_t
 use Rattle.line_text.proofs.LineLemmas.{no_rows_left}
 use Rattle.line_text.proofs.NumberLemmas.{written_token, written_kept}
 use Rattle.line_text.proofs.WrittenLines.{is_kept, row_before}
+use Rattle.cayley.proofs.Lists.Each.{each_append}
 use Rattle.support_text.specs.Words.{Text, words, text_of}
+use Rattle.support_text.proofs.Numbers.{both_are}
 
 -- it is one token wherever it stands before a blank, a mark or the end, and it ends no line
 pub record IsWord (w : Text) : Type 0 where
@@ -50,16 +52,13 @@ joined_words (w ∷ v ∷ ws) place are =
     let others = joined_words (v ∷ ws) (place + length w + 1) are.1 in
     ap texts first ∙ ap (λ l. w ∷ texts l) blank ∙ ap (λ l. w ∷ l) others
 
-both_true : (a b : Bool) → a ≡ true → b ≡ true → (a && b) ≡ true
-both_true a b p q = rw (p, q) refl
-
 joined_kept : (ws : List Text) → Each ws IsWord → list_all is_kept (join_with_byte 32 ws) ≡ true
 joined_kept [] are = refl
 joined_kept (w ∷ []) are = are.0.kept
 joined_kept (w ∷ v ∷ ws) are =
     let rest = join_with_byte 32 (v ∷ ws) in
     let others : list_all is_kept (32 ∷ rest) ≡ true = joined_kept (v ∷ ws) are.1 in
-    list_all-append is_kept w (32 ∷ rest) ∙ both_true (list_all is_kept w) (list_all is_kept (32 ∷ rest)) are.0.kept others
+    list_all-append is_kept w (32 ∷ rest) ∙ both_are (list_all is_kept w) (list_all is_kept (32 ∷ rest)) are.0.kept others
 
 -- ---- lines
 
@@ -88,15 +87,10 @@ unfolding lines_of
 lines_again wss are = rows_again wss 0 1 are
 
 -- ---- each of some lists
-
-pub each-append : {A : Type 0} (P : A → Type 0) (xs ys : List A) → Each xs P → Each ys P → Each (xs ++ ys) P
-each-append P [] ys h k = k
-each-append P (x ∷ xs) ys h k = (h.0, each-append P xs ys h.1 k)
-
 pub each-map : {A B : Type 0} (P : B → Type 0) (Q : A → Type 0) (f : A → B) → ((x : A) → Q x → P (f x)) → (xs : List A) → Each xs Q → Each (map f xs) P
 each-map P Q f g [] h = tt
 each-map P Q f g (x ∷ xs) h = (g x h.0, each-map P Q f g xs h.1)
 
 pub each-flat : {A B : Type 0} (P : B → Type 0) (Q : A → Type 0) (f : A → List B) → ((x : A) → Q x → Each (f x) P) → (xs : List A) → Each xs Q → Each (flat_map f xs) P
 each-flat P Q f g [] h = tt
-each-flat P Q f g (x ∷ xs) h = each-append P (f x) (flat_map f xs) (g x h.0) (each-flat P Q f g xs h.1)
+each-flat P Q f g (x ∷ xs) h = each_append P (f x) (flat_map f xs) (g x h.0) (each-flat P Q f g xs h.1)

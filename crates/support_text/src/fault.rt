@@ -4,22 +4,24 @@ ghost use Rattle.support_text.specs.Faults.{kind_number, fault};
 
 use thiserror::Error;
 
-/// What is wrong with a line of a problem file.
+/// What is wrong with a line of a problem file or of a listing.
 #[derive(Clone, Copy, Debug, PartialEq, Eq)]
 pub enum Kind {
     /// The first line isn't `mixedcells 1` or `mixedcells 2`.
     Header,
     /// The line isn't `dim` with one number from 1 to 16.
     Dim,
-    /// The line isn't `support` with one number from 1 to 1,000.
+    /// The line isn't `support` with one number from 1 to 1,000; in a listing, isn't `cells` with one number or doesn't
+    /// begin with `cell`.
     Count,
     /// A number or the `:` is missing, spelled wrongly, or more tokens follow.
     Number,
-    /// A coordinate or height is out of its limits.
+    /// A number is out of its limits, or a pair of a cell line doesn't rise.
     Range,
     /// The coordinates equal those of an earlier point of the support.
     Repeated,
-    /// The line is neither `end` nor the start line that is expected.
+    /// The line behind the last support begins neither with `start` nor with `end`, a further start line is expected
+    /// and isn't there, or a start line is faulty.
     Start,
     /// The input ends where a line is expected.
     Missing,

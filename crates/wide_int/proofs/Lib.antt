@@ -1,7 +1,9 @@
+pub mod Bools
 pub mod CommonDivisors
 pub mod Dividing
-pub mod Lowest
+mod Lowest
 pub mod Order
-pub mod Quotients
+mod Quotients
 pub mod Ring
 pub mod Signed
+pub mod Turns

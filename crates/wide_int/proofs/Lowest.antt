@@ -10,7 +10,7 @@ use Rattle.wide_int.specs.Whole.{FitsWhole}
 use Rattle.wide_int.specs.Fractions.{Fraction, IsLowest, IsFraction, IsBelow, OneForm, FractionsAreOrdered}
 use Rattle.wide_int.proofs.CommonDivisors.{euclid_lemma}
 use Rattle.wide_int.proofs.Order.{mul_cancel, not_lt, ratio_lt_trans}
-use Rattle.wide_int.proofs.Ring.{as_D, Ds, same_D, neg_mul_ℤ, mul_neg_ℤ}
+use Rattle.wide_int.proofs.Ring.{as_D, Ds, same_D}
 use Rattle.wide_int.proofs.Signed.{is_neg, abs_positive}
 
 abs_neg : (z : ℤ) → unsigned_abs (pos 0 -ℤ z) ≡ unsigned_abs z
@@ -30,9 +30,6 @@ turned_lowest n d h g fn fd =
       subst (λ (a : ℕ). a < 2 ^ 127) en fn,
       subst (λ (a : ℕ). a < 2 ^ 127) ed fd,
     )
-
-pub turned_value : (n d : ℤ) → (pos 0 -ℤ n) *ℤ d ≡ n *ℤ (pos 0 -ℤ d)
-turned_value n d = ap (λ z. z *ℤ d) (is_neg n) ∙ neg_mul_ℤ n d ∙ sym (mul_neg_ℤ n d) ∙ ap (λ z. n *ℤ z) (sym (is_neg d))
 
 pub kept_lowest : (n d : ℤ) → d ≢ pos 0 → ¬ (d <ℤ pos 0) → IsGcd (unsigned_abs n) (unsigned_abs d) 1 → FitsWhole n → FitsWhole d → IsLowest (record { num = n; den = d })
 kept_lowest n d o h g fn fd = (positive d o h, g, fn, fd)

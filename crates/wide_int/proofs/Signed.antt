@@ -53,3 +53,12 @@ some_same r x y e h = subst (λ z. SomeIff r (FitsWhole z) z) e h
 -- a factor of a number that fits, by a positive number
 pub factor_fits : (g q a : ℤ) → pos 0 <ℤ g → g *ℤ q ≡ a → FitsWhole a → FitsWhole q
 factor_fits g q a p e f = below_product (unsigned_abs g) (unsigned_abs q) (abs_positive g p) (subst (λ n. n < 2 ^ 127) (ap unsigned_abs (sym e) ∙ unsigned_abs-mul g q) f)
+
+pub some_abs : (z : ℤ) → z ≢ pos 0 → 0 < unsigned_abs z
+some_abs (pos zero) n = absurd (n refl)
+some_abs (pos (suc k)) n = omega arith
+some_abs (negsuc k) n = omega arith
+
+pub positive_is : (g : ℤ) → pos 0 <ℤ g → pos (unsigned_abs g) ≡ g
+positive_is (pos n) p = refl
+positive_is (negsuc n) p = absurd (omega (arith, ints, p))

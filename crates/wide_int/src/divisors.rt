@@ -61,7 +61,7 @@ fn wide_quotient(a: i128, divisor: i128) -> i128
     a / divisor
 }
 
-/// The quotient of two numbers, towards zero.
+/// The quotient of a number by a positive one, towards zero.
 pub fn quotient(a: i128, divisor: i128) -> i128
     requires positive { pos 0 <ℤ divisor }
     ensures { result ≡ int_div a divisor }
@@ -93,7 +93,7 @@ pub fn exact_quotient(a: i128, divisor: i128) -> i128
     a / divisor
 }
 
-/// The least common multiple, or `None` exactly where it doesn't fit. It is found as
+/// The least common multiple of two positive numbers, or `None` exactly where it doesn't fit. It is found as
 /// `a / gcd * b`, so that no greater number comes up on the way.
 pub fn lcm(a: i128, b: i128) -> Option<i128>
     requires a_fits { FitsWhole a }

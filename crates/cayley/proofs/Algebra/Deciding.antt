@@ -4,11 +4,13 @@ use Rattle.std.proofs.lemmas.Int.{ints}
 use Rattle.std.proofs.Math.IntN.{ℤ, pos, ◌+ℤ◌, ◌*ℤ◌, neg_ℤ, *ℤ_comm, *ℤ-zero, ℤ_discrete}
 use Rattle.wide_int.proofs.Order.{zero_product}
 use Rattle.int_vectors.proofs.Weighing.{weigh-zero}
-use Rattle.cayley.proofs.Algebra.Dependence.{dependent}
-use Rattle.cayley.proofs.Algebra.Kernel.{Kills, Kernel, kernel, Independent, Solves, Solution, extend, length-extend, solves_from, kills_from, places, length-places, length-map}
-use Rattle.cayley.proofs.Algebra.ScaledInverse.{All_solved, solves_all, solves-scale, solves_all-scale, each_long-scale, product_apart, units, solves-comb, solves-same, at-comb, at-add, at-scale, weigh-units, length-add, length-comb, length-scale, dot-add, dot-scale, dot-zero}
-use Rattle.cayley.proofs.Algebra.RowDependencies.{zero-at}
+use Rattle.cayley.proofs.Algebra.Dependence.{dependent, scale-zero, length-map}
+use Rattle.cayley.proofs.Algebra.Kernel.{Kills, Kernel, kernel, Independent, Solves, Solution, extend, length-extend, solves_from, kills_from, places, length-places}
+use Rattle.cayley.proofs.Algebra.ScaledInverse.{All_solved, solves_all, solves-scale, solves_all-scale, each_long-scale, product_apart, units, solves-comb, solves-same, at-comb, weigh-units, length-add, length-comb, dot-add, dot-scale, dot-zero}
 use Rattle.int_vectors.specs.Vectors.{weigh, IsZero, scale, Each, dot, at, add, comb}
+use Rattle.int_vectors.proofs.Entries.{length-scale, at-scale, at-add, zero_below, zero_from}
+use Rattle.cayley.proofs.Algebra.RowNormals.{at-zero}
+use Rattle.cayley.proofs.Lists.Each.{map_map}
 
 -- either a solution, or a vector of the kernel
 solve_or : (n : ℕ) (rows : List (List ℤ)) (bs : List ℤ) → length rows ≡ n → Kernel n rows ⊎ Solution n rows bs
@@ -46,15 +48,6 @@ solve_all_or n rows (t ∷ ts) e = elim (solve_or n rows t e) [
   ]
 ]
 
-at_zero : (u : List ℤ) (k : ℕ) → IsZero u → at u k ≡ pos 0
-at_zero [] k z = refl
-at_zero (x ∷ u) zero z = z.0
-at_zero (x ∷ u) (suc k) z = at_zero u k z.1
-
-unscale : (k : ℤ) (cs : List ℤ) → k ≢ pos 0 → IsZero (scale k cs) → IsZero cs
-unscale k [] n z = tt
-unscale k (c ∷ cs) n z = (elim (zero_product k c z.0) [ inl e ↦ absurd (n e) | inr e ↦ e ], unscale k cs n z.1)
-
 left_zero : (c : ℤ) (v ds : List ℤ) (xs : List (List ℤ)) (i : ℕ) → IsZero ds → at (add (scale c v) (comb ds xs)) i ≡ pos 0 → at (scale c v) i ≡ pos 0
 left_zero c v ds xs i z e =
     let a = at-add (scale c v) (comb ds xs) i in
@@ -64,18 +57,10 @@ left_zero c v ds xs i z e =
 abbrev col : ℕ → List ℤ → ℤ
 col k u = at u k
 
-map_map : {A B C : Type 0} (f : B → C) (g : A → B) (xs : List A) → map f (map g xs) ≡ map (λ x. f (g x)) xs
-map_map f g [] = refl
-map_map f g (x ∷ xs) = ap (λ l. f (g x) ∷ l) (map_map f g xs)
-
 each_place : {B : Type 0} (P : B → Type 0) (f : ℕ → B) (m k : ℕ) → k < m → Each (map f (places m)) P → P (f k)
 each_place P f zero k h e = absurd (omega arith)
 each_place P f (suc m) zero h e = e.0
 each_place P f (suc m) (suc k) h e = each_place P (λ j. f (suc j)) m k (omega arith) (subst (λ l. Each l P) (map_map f suc (places m)) e.1)
-
-zero_below : (w : List ℤ) → ((k : ℕ) → k < length w → at w k ≡ pos 0) → IsZero w
-zero_below [] e = tt
-zero_below (x ∷ w) e = (e 0 (omega arith), zero_below w (λ k h. e (suc k) (omega arith)))
 
 -- E X = g I alone gives independence
 module _ (n : ℕ) (rows xs : List (List ℤ)) (g : ℤ) (apart : g ≢ pos 0) (er : length rows ≡ n) (ex : length xs ≡ n) (long : Each xs (λ x. length x ≡ n))
@@ -106,7 +91,7 @@ module _ (n : ℕ) (rows xs : List (List ℤ)) (g : ℤ) (apart : g ≢ pos 0) (
           let dz = coefs_zero c ds ds rows (er ∙ sym ld) kills (right ds ld) z in
           elim (ℤ_discrete c (pos 0)) [
             | yes e ↦ absurd (some (e, dz))
-            | no apart_c ↦ unscale c v apart_c (zero-at (scale c v) (λ i. left_zero c v ds xs i dz (at_zero w i z)))
+            | no apart_c ↦ scale-zero c v apart_c (zero_from (scale c v) (λ i. left_zero c v ds xs i dz (at-zero w i z)))
           ]
 
 length-units : (n : ℕ) → length (units n) ≡ n

@@ -6,6 +6,7 @@ use Rattle.wide_int.proofs.Ring.{as_D, Ds, same_D, D-pos}
 use Rattle.wide_int.proofs.Order.{zero_product}
 use Rattle.int_vectors.proofs.Weighing.{weigh-lin, weigh-scale, weigh-append}
 use Rattle.int_vectors.specs.Vectors.{weigh, IsZero, scale, Each}
+use Rattle.int_vectors.proofs.Entries.{length-scale}
 
 pub record Pivot {A : Type 0} (f : A → ℤ) (ps : List A) : Type 0 where
   pub before : List A
@@ -56,7 +57,7 @@ split (c ∷ cs) (x ∷ xs) ys e =
 abbrev reduce : {A : Type 0} → (A → ℤ) → A → (A → ℤ) → (A → ℤ)
 reduce f u g = λ w. f u *ℤ g w +ℤ neg_ℤ (g u) *ℤ f w
 
-scale-zero : (k : ℤ) (cs : List ℤ) → k ≢ pos 0 → IsZero (scale k cs) → IsZero cs
+pub scale-zero : (k : ℤ) (cs : List ℤ) → k ≢ pos 0 → IsZero (scale k cs) → IsZero cs
 scale-zero k [] n z = tt
 scale-zero k (c ∷ cs) n z = (elim (zero_product k c z.0) [ inl e ↦ absurd (n e) | inr e ↦ e ], scale-zero k cs n z.1)
 
@@ -71,10 +72,6 @@ append-zero_left (x ∷ xs) ys p = (p.0, append-zero_left xs ys p.1)
 append-zero_right : (xs ys : List ℤ) → IsZero (xs ++ ys) → IsZero ys
 append-zero_right [] ys p = p
 append-zero_right (x ∷ xs) ys p = append-zero_right xs ys p.1
-
-length-scale : (k : ℤ) (cs : List ℤ) → length (scale k cs) ≡ length cs
-length-scale k [] = refl
-length-scale k (c ∷ cs) = ap suc (length-scale k cs)
 
 module _ {A : Type 0} (f : A → ℤ) (before after : List A) (u : A) (ca cb : List ℤ) (la : length ca ≡ length before) where
   mid : ℤ
@@ -119,7 +116,7 @@ module _ {A : Type 0} (f : A → ℤ) (before after : List A) (u : A) (ca cb : L
   unfolding coefs
   long lb = omega (arith, length-append (scale (f u) ca) (mid ∷ scale (f u) cb), length-append before (u ∷ after), length-scale (f u) ca, length-scale (f u) cb)
 
-length-map : {A B : Type 0} (f : A → B) (xs : List A) → length (map f xs) ≡ length xs
+pub length-map : {A B : Type 0} (f : A → B) (xs : List A) → length (map f xs) ≡ length xs
 length-map f [] = refl
 length-map f (x ∷ xs) = ap suc (length-map f xs)
 

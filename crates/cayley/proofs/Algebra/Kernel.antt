@@ -3,8 +3,8 @@ use Rattle.std.proofs.Common.{◌≡◌, ◌≢◌, ℕ, zero, suc, ◌<◌, Lis
 use Rattle.std.proofs.lemmas.Int.{ints}
 use Rattle.std.proofs.Math.IntN.{ℤ, pos, ◌+ℤ◌, ◌*ℤ◌, neg_ℤ, *ℤ_comm, ℤ_discrete}
 use Rattle.wide_int.proofs.Ring.{as_D, Ds, same_D}
-use Rattle.cayley.proofs.Algebra.Dependence.{dependent}
-use Rattle.int_vectors.specs.Vectors.{weigh, IsZero, Each, dot, at}
+use Rattle.cayley.proofs.Algebra.Dependence.{dependent, length-map}
+use Rattle.int_vectors.specs.Vectors.{weigh, IsZero, Each, dot, at, row_at}
 
 pub dot_comm : (xs ys : List ℤ) → dot xs ys ≡ dot ys xs
 dot_comm [] [] = refl
@@ -33,10 +33,6 @@ weigh-at [] m (x ∷ xs) e = refl
 weigh-at (c ∷ cs) zero (x ∷ xs) e = absurd (omega arith)
 weigh-at (c ∷ cs) (suc m) (x ∷ xs) e =
     ap₂ ◌+ℤ◌ (*ℤ_comm c x) (weigh_map cs suc (places m) (at (x ∷ xs)) ∙ weigh-at cs m xs (omega arith))
-
-pub length-map : {A B : Type 0} (f : A → B) (xs : List A) → length (map f xs) ≡ length xs
-length-map f [] = refl
-length-map f (x ∷ xs) = ap suc (length-map f xs)
 
 pub length-places : (n : ℕ) → length (places n) ≡ n
 length-places zero = refl
@@ -119,3 +115,8 @@ solve n rows bs e ind =
           | yes z ↦ absurd (some (z, ind v lv (kills_from rows bs (neg_ℤ c) v (ap neg_ℤ z) s)))
           | no apart ↦ record { k = neg_ℤ c; apart = λ h. apart (omega (arith, ints)); v = v; long = lv; solves = s }
         ]
+
+pub kills_at : (rows : List (List ℤ)) (v : List ℤ) (j : ℕ) → j < length rows → Kills rows v → dot (row_at rows j) v ≡ pos 0
+kills_at [] v j lt k = absurd (omega (arith, lt))
+kills_at (r ∷ rows) v zero lt k = k.0
+kills_at (r ∷ rows) v (suc j) lt k = kills_at rows v j (omega (arith, lt)) k.1

@@ -1,12 +1,14 @@
 -- dependencies, their signs and exchanges, over rows of whole numbers
 use Rattle.std.proofs.Common.{◌≡◌, ◌≢◌, ℕ, zero, suc, List, [], ◌∷◌, ◌++◌, length, arith, refl, sym, ap, ap₂, ◌∙◌, inl, inr}
 use Rattle.std.proofs.lemmas.Int.{ints}
-use Rattle.std.proofs.Math.IntN.{ℤ, pos, ◌+ℤ◌, ◌*ℤ◌, neg_ℤ, *ℤ-zero, +ℤ_idl, +ℤ_idr}
+use Rattle.std.proofs.Math.IntN.{ℤ, pos, ◌+ℤ◌, ◌*ℤ◌, neg_ℤ, *ℤ-zero}
 use Rattle.wide_int.proofs.Ring.{as_D, Ds, same_D}
 use Rattle.wide_int.proofs.Order.{zero_product}
-use Rattle.int_vectors.proofs.Weighing.{weigh-append, weigh-scale}
+use Rattle.int_vectors.proofs.Weighing.{weigh-append, weigh-scale, weigh-add}
 use Rattle.cayley.proofs.Algebra.Kernel.{Kills, Independent, Solves, solve}
 use Rattle.int_vectors.specs.Vectors.{weigh, IsZero, Each, dot, at, at_place, add, scale}
+use Rattle.int_vectors.proofs.Entries.{zero_from}
+use Rattle.cayley.proofs.Lists.Each.{each_append}
 
 -- numbers b at the rows and g at d: the combination is the zero vector
 abbrev pub IsDependency : ℕ → List (List ℤ) → List ℤ → List ℤ → ℤ → Type 0
@@ -17,17 +19,13 @@ weigh-killed [] rows y k = refl
 weigh-killed (c ∷ cs) [] y k = refl
 weigh-killed (c ∷ cs) (r ∷ rows) y k = rw (k.0, weigh-killed cs rows y k.1) (omega (arith, ints))
 
-each-left : {A : Type 0} (P : A → Type 0) (xs ys : List A) → Each (xs ++ ys) P → Each xs P
+pub each-left : {A : Type 0} (P : A → Type 0) (xs ys : List A) → Each (xs ++ ys) P → Each xs P
 each-left P [] ys e = tt
 each-left P (x ∷ xs) ys e = (e.0, each-left P xs ys e.1)
 
-each-right : {A : Type 0} (P : A → Type 0) (xs ys : List A) → Each (xs ++ ys) P → Each ys P
+pub each-right : {A : Type 0} (P : A → Type 0) (xs ys : List A) → Each (xs ++ ys) P → Each ys P
 each-right P [] ys e = e
 each-right P (x ∷ xs) ys e = each-right P xs ys e.1
-
-each-append : {A : Type 0} (P : A → Type 0) (xs ys : List A) → Each xs P → Each ys P → Each (xs ++ ys) P
-each-append P [] ys p q = q
-each-append P (x ∷ xs) ys p q = (p.0, each-append P xs ys p.1 q)
 
 module _ (n : ℕ) (before after : List (List ℤ)) (r d : List ℤ) (ca cb : List ℤ) (b g : ℤ) (long : length ca ≡ length before)
     (dep : IsDependency n (before ++ r ∷ after) d (ca ++ b ∷ cb) g) where
@@ -47,7 +45,7 @@ module _ (n : ℕ) (before after : List (List ℤ)) (r d : List ℤ) (ca cb : Li
       let dz : g *ℤ dot d y ≡ pos 0 = rw q.0 (*ℤ-zero g) in
       let z : b *ℤ dot r y ≡ pos 0 = omega (arith, ints, e, dz) in
       let rz : dot r y ≡ pos 0 = elim (zero_product b (dot r y) z) [ inl h ↦ absurd (some h) | inr h ↦ h ] in
-      ind y l (each-append (λ x. dot x y ≡ pos 0) before (r ∷ after) p (rz, q.1))
+      ind y l (each_append (λ x. dot x y ≡ pos 0) before (r ∷ after) p (rz, q.1))
 
   pub exchange_back : g ≢ pos 0 → length (before ++ d ∷ after) ≡ n → Independent n (before ++ d ∷ after) → b ≢ pos 0
   exchange_back some e ind none =
@@ -70,7 +68,7 @@ module _ (n : ℕ) (before after : List (List ℤ)) (r d : List ℤ) (ca cb : Li
       from_unit [] k v s = (tt, s.0 ∙ (omega (arith, ints)), rest after k v s.1)
       from_unit (x ∷ xs) k v s = let t = from_unit xs k v s.1 in ((s.0 ∙ *ℤ-zero k, t.0), t.1, t.2)
 
-weigh-solves : (bs : List ℤ) (rows : List (List ℤ)) (t : List ℤ) (k : ℤ) (v : List ℤ) → length bs ≡ length rows → Solves rows t k v
+pub weigh-solves : (bs : List ℤ) (rows : List (List ℤ)) (t : List ℤ) (k : ℤ) (v : List ℤ) → length bs ≡ length rows → Solves rows t k v
     → weigh bs rows (λ r. dot r v) ≡ k *ℤ dot bs t
 weigh-solves [] [] t k v l s = sym (*ℤ-zero k)
 weigh-solves [] (r ∷ rows) t k v l s = absurd (omega arith)
@@ -87,7 +85,7 @@ weigh-solves (b ∷ bs) (r ∷ rows) (t ∷ ts) k v l s =
     step : (b k t s : ℤ) → b *ℤ (k *ℤ t) +ℤ k *ℤ s ≡ k *ℤ (b *ℤ t +ℤ s)
     step b k t s = rw (as_D b, as_D k, as_D t, as_D s) (simp Ds (same_D _ _ _ _ (omega arith)))
 
-dot-place : (bs : List ℤ) (k : ℕ) → dot bs (at_place k (pos 1)) ≡ at bs k
+pub dot-place : (bs : List ℤ) (k : ℕ) → dot bs (at_place k (pos 1)) ≡ at bs k
 dot-place [] k = refl
 dot-place (b ∷ bs) zero = nothing b bs
   where
@@ -96,26 +94,13 @@ dot-place (b ∷ bs) zero = nothing b bs
     nothing b (x ∷ bs) = omega (arith, ints)
 dot-place (b ∷ bs) (suc k) = rw (dot-place bs k) (omega (arith, ints))
 
-pub zero-at : (bs : List ℤ) → ((k : ℕ) → at bs k ≡ pos 0) → IsZero bs
-zero-at [] e = tt
-zero-at (b ∷ bs) e = (e 0, zero-at bs (λ k. e (suc k)))
-
 -- a combination of independent rows that is the zero vector has coefficients zero
 pub rows_apart : (n : ℕ) (rows : List (List ℤ)) (bs : List ℤ) → length rows ≡ n → length bs ≡ n → Independent n rows
     → ((y : List ℤ) → length y ≡ n → weigh bs rows (λ r. dot r y) ≡ pos 0) → IsZero bs
-rows_apart n rows bs er eb ind z = zero-at bs (λ k.
+rows_apart n rows bs er eb ind z = zero_from bs (λ k.
     let s = solve n rows (at_place k (pos 1)) er ind in
     let e : s.k *ℤ at bs k ≡ pos 0 = ap (λ x. s.k *ℤ x) (sym (dot-place bs k)) ∙ sym (weigh-solves bs rows (at_place k (pos 1)) s.k s.v (eb ∙ sym er) s.solves) ∙ z s.v s.long in
     elim (zero_product s.k (at bs k) e) [ inl h ↦ absurd (s.apart h) | inr h ↦ h ])
-
-weigh-add : {A : Type 0} (cs ds : List ℤ) (xs : List A) (f : A → ℤ) → weigh (add cs ds) xs f ≡ weigh cs xs f +ℤ weigh ds xs f
-weigh-add [] ds xs f = sym (+ℤ_idl _)
-weigh-add (c ∷ cs) [] xs f = sym (ap (λ x. weigh (c ∷ cs) xs f +ℤ x) refl ∙ +ℤ_idr _)
-weigh-add (c ∷ cs) (d ∷ ds) [] f = refl
-weigh-add (c ∷ cs) (d ∷ ds) (x ∷ xs) f = rw (weigh-add cs ds xs f) (step c d (f x) (weigh cs xs f) (weigh ds xs f))
-  where
-    step : (c d x s t : ℤ) → (c +ℤ d) *ℤ x +ℤ (s +ℤ t) ≡ c *ℤ x +ℤ s +ℤ (d *ℤ x +ℤ t)
-    step c d x s t = rw (as_D c, as_D d, as_D x, as_D s, as_D t) (simp Ds (same_D _ _ _ _ (omega arith)))
 
 -- any two dependencies of one further point are multiples
 pub multiple : (n : ℕ) (rows : List (List ℤ)) (d bs cs : List ℤ) (g h : ℤ) → length rows ≡ n → length bs ≡ n → length cs ≡ n → Independent n rows

@@ -6,6 +6,7 @@ use Rattle.wide_int.proofs.Ring.{as_D, Ds, same_D, D-pos, mul_assoc_ℤ, neg_mul
 use Rattle.wide_int.proofs.Order.{zero_product}
 use Rattle.cayley.proofs.Algebra.Kernel.{weigh_map, weigh_nothing, Kills, Independent, Solves, solve}
 use Rattle.int_vectors.specs.Vectors.{weigh, IsZero, scale, Each, dot, at, add, comb}
+use Rattle.int_vectors.proofs.Entries.{length-scale, at-scale, at-add}
 
 pub dot-nil : (r : List ℤ) → dot r [] ≡ pos 0
 dot-nil [] = refl
@@ -65,10 +66,6 @@ solves_all-scale rows [] g m (x ∷ xs) s = s
 solves_all-scale rows (t ∷ ts) g m [] s = s
 solves_all-scale rows (t ∷ ts) g m (x ∷ xs) s = (solves-scale rows t x g m s.0, solves_all-scale rows ts g m xs s.1)
 
-pub length-scale : (k : ℤ) (cs : List ℤ) → length (scale k cs) ≡ length cs
-length-scale k [] = refl
-length-scale k (c ∷ cs) = ap suc (length-scale k cs)
-
 pub each_long-scale : (n : ℕ) (m : ℤ) (xs : List (List ℤ)) → Each xs (λ x. length x ≡ n) → Each (map (scale m) xs) (λ x. length x ≡ n)
 each_long-scale n m [] e = tt
 each_long-scale n m (x ∷ xs) e = (length-scale m x ∙ e.0, each_long-scale n m xs e.1)
@@ -112,25 +109,10 @@ weigh-units zero (y ∷ ys) i e = absurd (omega arith)
 weigh-units (suc n) (y ∷ ys) zero e = ap (λ s. y *ℤ pos 1 +ℤ s) (weigh_map ys (λ u. pos 0 ∷ u) (units n) (λ u. at u 0) ∙ weigh_nothing ys (units n)) ∙ omega (arith, ints)
 weigh-units (suc n) (y ∷ ys) (suc i) e = ap (λ s. y *ℤ pos 0 +ℤ s) (weigh_map ys (λ u. pos 0 ∷ u) (units n) (λ u. at u (suc i)) ∙ weigh-units n ys i (omega arith)) ∙ omega (arith, ints)
 
-pub at-add : (u v : List ℤ) (i : ℕ) → at (add u v) i ≡ at u i +ℤ at v i
-at-add [] v i = sym (+ℤ_idl _)
-at-add (x ∷ u) [] i = sym (+ℤ_idr _)
-at-add (x ∷ u) (y ∷ v) zero = refl
-at-add (x ∷ u) (y ∷ v) (suc i) = at-add u v i
-
-pub at-scale : (k : ℤ) (v : List ℤ) (i : ℕ) → at (scale k v) i ≡ k *ℤ at v i
-at-scale k [] i = sym (*ℤ-zero k)
-at-scale k (x ∷ v) zero = refl
-at-scale k (x ∷ v) (suc i) = at-scale k v i
-
 pub at-comb : (cs : List ℤ) (xs : List (List ℤ)) (i : ℕ) → at (comb cs xs) i ≡ weigh cs xs (λ x. at x i)
 at-comb [] xs i = refl
 at-comb (c ∷ cs) [] i = refl
 at-comb (c ∷ cs) (x ∷ xs) i = at-add (scale c x) (comb cs xs) i ∙ ap₂ ◌+ℤ◌ (at-scale c x i) (at-comb cs xs i)
-
--- Solves by places
-tail_same : (x y : ℤ) (u v : List ℤ) → Same (x ∷ u) (y ∷ v) → Same u v
-tail_same x y u v s k = s (suc k)
 
 pub solves-same : (rows : List (List ℤ)) (b c : List ℤ) (k : ℤ) (v : List ℤ) → Same b c → Solves rows b k v → Solves rows c k v
 solves-same [] b c k v s h = tt
@@ -200,7 +182,7 @@ length-comb [] xs n e = omega arith
 length-comb (c ∷ cs) [] n e = omega arith
 length-comb (c ∷ cs) (x ∷ xs) n e = omega (arith, length-add (scale c x) (comb cs xs) n (length-scale c x ∙ e.0) (length-comb cs xs n e.1))
 
-length-apply : (rows : List (List ℤ)) (v : List ℤ) → length (apply rows v) ≡ length rows
+pub length-apply : (rows : List (List ℤ)) (v : List ℤ) → length (apply rows v) ≡ length rows
 length-apply [] v = refl
 length-apply (r ∷ rows) v = ap suc (length-apply rows v)
 

@@ -6,24 +6,27 @@ use Rattle.wide_int.proofs.Ring.{as_D, Ds, same_D}
 use Rattle.wide_int.proofs.Order.{zero_product}
 use Rattle.int_vectors.proofs.Weighing.{weigh-append, weigh-scale}
 use Rattle.cayley.proofs.Order.Lexicographic.{minus_one}
-use Rattle.cayley.proofs.Algebra.Kernel.{Kills, length-map}
-use Rattle.cayley.proofs.Algebra.ScaledInverse.{at-add, at-scale, at-comb}
+use Rattle.cayley.proofs.Algebra.Kernel.{Kills}
+use Rattle.cayley.proofs.Algebra.ScaledInverse.{at-comb}
 use Rattle.cayley.proofs.Algebra.RowDependencies.{IsDependency, exchange_back}
-use Rattle.cayley.proofs.Algebra.RowNormals.{at-zero, gap-at, entry}
+use Rattle.cayley.proofs.Algebra.RowNormals.{at-zero, gap-at}
 use Rattle.cayley.proofs.Order.Lines.{Line, line_at}
-use Rattle.cayley.proofs.OneCell.CellNormals.{edges, rises, length-rises, kills_to, rows_independent, long_rows}
+use Rattle.cayley.proofs.OneCell.CellNormals.{rises, length-rises, kills_to, rows_independent, long_rows}
 use Rattle.cayley.proofs.OneCell.CellLines.{lines, rise_line, sum_line, sum_line-at, a_dependency}
 use Rattle.cayley.proofs.Flipping.Neighbours.{potential, gap-potential, each_pair-left, each_pair-right, each_pair-append, edges-append, dot-sub}
 use native.Mathlib.Decide.{dec_lt}
 use Rattle.cayley.proofs.Order.Soon.{each_pair-map}
 use Rattle.cayley.proofs.Flipping.PairOrder.{IsTurned, independent_turned}
-use Rattle.int_vectors.specs.Vectors.{weigh, IsZero, scale, dot, at, sub, comb}
+use Rattle.int_vectors.specs.Vectors.{weigh, IsZero, scale, dot, at, sub, comb, entries_at}
+use Rattle.int_vectors.proofs.Entries.{at-scale, at-add}
 use Rattle.cayley.specs.Problems.{Point, point_at, IsProblem}
 use Rattle.cayley.specs.Times.{Time}
 use Rattle.cayley.specs.Normals.{Normal, height, gap, IsNormal}
 use Rattle.cayley.specs.Cells.{Cell, EachPair, IsOf, IsIndependent}
 use Rattle.cayley.specs.Flips.{lesser, greater, rising}
 use Rattle.cayley.proofs.Flipping.Spots.{Spot, problem_of, with_pair}
+use Rattle.cayley.specs.Rows.{edges}
+use Rattle.cayley.proofs.Algebra.Dependence.{length-map}
 
 -- ---- the rising order of two positions
 pub lesser_is : (a b : ℕ) → a < b → lesser a b ≡ a
@@ -78,7 +81,7 @@ weigh_killed (c ∷ cs) (s ∷ supports) (x ∷ cell) w k = rw (k.0, weigh_kille
 
 -- the pairs that are level, weighed
 weigh_level : (cs : List ℤ) (supports : List (List Point)) (cell : Cell) (t : Time) (v : Normal) (e : ℕ) → EachPair supports cell (λ s a b. IsZero (gap t v (point_at s a) (point_at s b)))
-    → t.over *ℤ weigh cs (edges supports cell) (λ r. dot r (entry e v.entries)) +ℤ v.over *ℤ weigh cs (rises t supports cell) (λ h. at h e) ≡ pos 0
+    → t.over *ℤ weigh cs (edges supports cell) (λ r. dot r (entries_at e v.entries)) +ℤ v.over *ℤ weigh cs (rises t supports cell) (λ h. at h e) ≡ pos 0
 weigh_level [] supports cell t v e k = rw (*ℤ-zero t.over, *ℤ-zero v.over) refl
 weigh_level (c ∷ cs) [] cell t v e k = rw (*ℤ-zero t.over, *ℤ-zero v.over) refl
 weigh_level (c ∷ cs) (s ∷ supports) [] t v e k = rw (*ℤ-zero t.over, *ℤ-zero v.over) refl
@@ -87,7 +90,7 @@ weigh_level (c ∷ cs) (s ∷ supports) (x ∷ cell) t v e k =
     let q = point_at s x.1 in
     let a = sym (gap-at (sub q.coordinates p.coordinates) v.entries (sub (height t q) (height t p)) t.over v.over e) ∙ at-zero (gap t v p q) e k.0 in
     let i = weigh_level cs supports cell t v e k.1 in
-    step t.over v.over c (dot (sub q.coordinates p.coordinates) (entry e v.entries)) (at (sub (height t q) (height t p)) e) _ _ ∙ rw (a, i) (rw (*ℤ-zero c) refl)
+    step t.over v.over c (dot (sub q.coordinates p.coordinates) (entries_at e v.entries)) (at (sub (height t q) (height t p)) e) _ _ ∙ rw (a, i) (rw (*ℤ-zero c) refl)
   where
     step : (q d b x h s t : ℤ) → q *ℤ (b *ℤ x +ℤ s) +ℤ d *ℤ (b *ℤ h +ℤ t) ≡ b *ℤ (q *ℤ x +ℤ d *ℤ h) +ℤ (q *ℤ s +ℤ d *ℤ t)
     step q d b x h s t = rw (as_D q, as_D d, as_D b, as_D x, as_D h, as_D s, as_D t) (simp Ds (same_D _ _ _ _ (omega arith)))
@@ -199,7 +202,7 @@ module _ (o : Spot) (x y z : ℕ) (k : Circuit o x y z) where
       → v.over *ℤ at (line_at k.line t) e ≡ threefold o.s x y z k.lx k.ly k.lz (λ p. potential t v p e)
   unfolding potential
   by_potentials t v l q e =
-      let w = entry e v.entries in
+      let w = entries_at e v.entries in
       let a = weigh_level k.xs o.sb o.cb t v e q.0 in
       let b = weigh_level k.ys o.sa o.ca t v e q.1 in
       let d = k.dep w (length-map (λ u. at u e) v.entries ∙ l) in
@@ -379,9 +382,6 @@ rises-append t [] sa (x ∷ cb) ca l = absurd (omega arith)
 rises-append t (s ∷ sb) sa [] ca l = absurd (omega arith)
 rises-append t (s ∷ sb) sa (x ∷ cb) ca l = ap (λ l. sub (height t (point_at s x.1)) (height t (point_at s x.0)) ∷ l) (rises-append t sb sa cb ca (omega arith))
 
-pub edges-rises : (t : Time) (supports : List (List Point)) (cell : Cell) → length (edges supports cell) ≡ length (rises t supports cell)
-edges-rises t supports cell = length-rises t supports cell
-
 module _ (o : Spot) (x y z : ℕ) (xs ys : List ℤ) (b g : ℤ) (long : length xs ≡ length (edges o.sb o.cb))
     (dep : IsDependency o.n (edges (o.sb ++ o.s ∷ o.sa) (o.cb ++ (x, y) ∷ o.ca)) (sub (point_at o.s z).coordinates (point_at o.s x).coordinates) (xs ++ b ∷ ys) g) where
   unfoldable pub circuit_of : Circuit o x y z
@@ -416,7 +416,7 @@ module _ (o : Spot) (x y z : ℕ) (xs ys : List ℤ) (b g : ℤ) (long : length 
         ∙ at-add (comb bs (rises t supports cell)) (scale g (sub (height t (point_at o.s z)) (height t (point_at o.s x)))) e
         ∙ ap₂ ◌+ℤ◌ (at-comb bs (rises t supports cell) e) (at-scale g (sub (height t (point_at o.s z)) (height t (point_at o.s x))) e) in
         let a = ap (λ r. weigh bs r (λ h. at h e)) (rises-append t o.sb (o.s ∷ o.sa) o.cb ((x, y) ∷ o.ca) o.long)
-        ∙ weigh-append xs (b ∷ ys) (rises t o.sb o.cb) (rises t (o.s ∷ o.sa) ((x, y) ∷ o.ca)) (λ h. at h e) (long ∙ edges-rises t o.sb o.cb) in
+        ∙ weigh-append xs (b ∷ ys) (rises t o.sb o.cb) (rises t (o.s ∷ o.sa) ((x, y) ∷ o.ca)) (λ h. at h e) (long ∙ length-rises t o.sb o.cb) in
         let c = ap (λ q. g *ℤ q) (at-sub (height t (point_at o.s z)) (height t (point_at o.s x)) e) in
         let d = ap (λ q. b *ℤ q) (at-sub (height t (point_at o.s y)) (height t (point_at o.s x)) e) in
         let r = ring b g X Y Z in

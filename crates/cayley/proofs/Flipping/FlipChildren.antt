@@ -1,5 +1,6 @@
 -- the children of a cell that has one level point at its end, and the parent of a cell that has one where it begins
 use Rattle.std.proofs.Common.{ℕ, subst}
+use Rattle.int_vectors.proofs.Entries.{not_zero}
 use Rattle.cayley.specs.Times.{Time}
 use Rattle.cayley.specs.Problems.{Problem, IsProblem, point_at}
 use Rattle.cayley.specs.Cells.{Cell}
@@ -7,11 +8,10 @@ use Rattle.cayley.specs.Normals.{Normal, gap, IsNormal, NoneBelow}
 use Rattle.cayley.specs.Mixed.{IsAlive}
 use Rattle.cayley.specs.Lives.{BeginsAt}
 use Rattle.cayley.specs.Parents.{IsParent}
-use Rattle.cayley.specs.Dependencies.{support_at, pair_at}
+use Rattle.cayley.specs.Dependencies.{pair_at, nth_support}
 use Rattle.cayley.specs.Ties.{IsLevelAt}
 use Rattle.cayley.specs.Flips.{IsOnlyLevel}
 use Rattle.cayley.specs.FlipLaws.{ChildrenLaw}
-use Rattle.cayley.proofs.Order.Lexicographic.{not_zero}
 use Rattle.cayley.proofs.Flipping.Spots.{problem_of, with_pair, OnlyLevel}
 use Rattle.cayley.proofs.Flipping.Places.{at_place_of, pairs_long, further_bound, place_of, level_point_of, only_by_places}
 use Rattle.cayley.proofs.OneCell.OneNormal.{all_above_any}
@@ -26,7 +26,7 @@ pub level_dead : (p : Problem) (cell : Cell) (t : Time) (v : Normal) (j c : ℕ)
 level_dead p cell t v j c well n l h =
     let e = all_above_any p cell t v well n h in
     let b = further_bound p.supports cell j c (pairs_long p.supports cell _ n.1) l.0 in
-    not_zero (gap t v (point_at (support_at p.supports j) (pair_at cell j).0) (point_at (support_at p.supports j) c)) (place_of _ p.supports cell e j b c l.0) l.1
+    not_zero (gap t v (point_at (nth_support p.supports j) (pair_at cell j).0) (point_at (nth_support p.supports j) c)) (place_of _ p.supports cell e j b c l.0) l.1
 
 -- the parent of a cell that begins with one level point
 pub parent_of_begin : (p : Problem) (tau : Cell) (t : Time) (v : Normal) (j c : ℕ) → IsProblem p → BeginsAt p tau t → IsNormal p tau t v → IsOnlyLevel p tau t v j c → NoneBelow p tau t v → (rho : Cell) × IsParent p rho tau

@@ -3,7 +3,6 @@ use Rattle.std.proofs.Common.{◌≡◌, ◌⊎◌, ℕ, ◌<◌, List, [], ◌�
 use Rattle.std.proofs.Math.IntN.{pos}
 use native.Mathlib.Decide.{ℕ_discrete}
 use Rattle.cayley.proofs.Life.Decisions.{alive_after, alive_before}
-use Rattle.cayley.proofs.Order.Lexicographic.{not_zero}
 use Rattle.cayley.proofs.Flipping.Neighbours.{level_pair, level_back}
 use Rattle.cayley.proofs.OneCell.CellLines.{point_line}
 use Rattle.cayley.proofs.Order.Soon.{each_pair-map}
@@ -11,6 +10,7 @@ use Rattle.cayley.proofs.Flipping.Exchange.{others_of, here_of, turn, cycle, by_
 use Rattle.cayley.proofs.Flipping.FlipScenes.{InRange, IsLevel, FurtherAbove, Scene, turn_scene, cycle_scene, other_scene, of_scene, normal_scene}
 use Rattle.cayley.proofs.Flipping.FlipSides.{rising_after, rising_before}
 use Rattle.int_vectors.specs.Vectors.{IsPositive}
+use Rattle.int_vectors.proofs.Entries.{not_zero}
 use Rattle.cayley.specs.Times.{Time}
 use Rattle.cayley.specs.Problems.{Point, point_at}
 use Rattle.cayley.specs.Normals.{Normal, gap, IsNormal}
@@ -19,6 +19,7 @@ use Rattle.cayley.specs.Lives.{AliveJustAfter, AliveJustBefore}
 use Rattle.cayley.specs.Parents.{Precedes, ShareOne, DifferInOne}
 use Rattle.cayley.specs.Flips.{rising}
 use Rattle.cayley.proofs.Flipping.Spots.{Spot, problem_of, with_pair}
+use Rattle.cayley.proofs.Life.Exits.{differ_sym}
 
 -- the point that is new in a pair that has one point of another
 pub record NewPoint (t : Time) (w : Normal) (s : List Point) (a b : ℕ) (pair : ℕ × ℕ) : Type 0 where
@@ -139,19 +140,6 @@ neighbour_rising o t x y z c tau =
     (λ l ind of d w is it. neighbour o t x y z c l ind w is tau of it d)
     (λ l ind of d w is it. swap_sum (neighbour o t y x z (turn_scene o t x y z c) l ind w is tau of it d))
 
-pub share_back : (x y : ℕ × ℕ) → ShareOne x y → ShareOne y x
-share_back x y (inl h) = inl (sym h.0, λ e. h.1 (sym e))
-share_back x y (inr (inl h)) = inr (inl (sym h.0, λ e. h.1 (sym e)))
-share_back x y (inr (inr (inl h))) = inr (inr (inr (sym h)))
-share_back x y (inr (inr (inr h))) = inr (inr (inl (sym h)))
-
-pub differ_back : (sigma tau : Cell) → DifferInOne sigma tau → DifferInOne tau sigma
-differ_back [] [] d = d
-differ_back [] (y ∷ tau) d = d
-differ_back (x ∷ sigma) [] d = d
-differ_back (x ∷ sigma) (y ∷ tau) (inl d) = inl (share_back x y d.0, sym d.1)
-differ_back (x ∷ sigma) (y ∷ tau) (inr d) = inr (sym d.0, differ_back sigma tau d.1)
-
 -- alive somewhere
 -- the other two pairs of the scene, with the sign of the point each leaves out
 pub successors_of : (o : Spot) (t : Time) (x y z : ℕ) (c : Scene o t x y z) (tau : Cell) → Precedes (problem_of o) (with_pair o (rising x y)) tau t
@@ -171,7 +159,7 @@ unfolding other_scene turn_scene cycle_scene turn cycle
 predecessors_of o t x y z c rho h =
     let a = (alive_after (problem_of o) (with_pair o (rising x y)) t h.2).1 in
     let b = (alive_before (problem_of o) rho t h.1).1 in
-    elim (neighbour_rising o t x y z c rho a.1 b.0 (differ_back rho (with_pair o (rising x y)) h.0) h.3.0 h.3.2 h.3.1) [
+    elim (neighbour_rising o t x y z c rho a.1 b.0 (differ_sym rho (with_pair o (rising x y)) h.0) h.3.0 h.3.2 h.3.1) [
       | inl e ↦ inl (e, rising_before o t x z y (other_scene o t x y z c) (subst (λ i. AliveJustBefore (problem_of o) i t) e h.1))
       | inr e ↦ inr (e, rising_before o t y z x (cycle_scene o t x y z c) (subst (λ i. AliveJustBefore (problem_of o) i t) e h.1))
     ]

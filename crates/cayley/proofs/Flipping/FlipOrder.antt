@@ -10,6 +10,7 @@ use Rattle.cayley.specs.Problems.{Problem}
 use Rattle.cayley.specs.Cells.{Cell, IsOf, IsLess}
 use Rattle.cayley.specs.Flips.{rising, put_pair, for_first, for_second, IsPredecessorAt}
 use Rattle.cayley.specs.Dependencies.{pair_at, IsFurtherAt}
+use Rattle.cayley.proofs.Searching.Parents.{less_irrefl}
 
 abbrev PairLess : ℕ × ℕ → ℕ × ℕ → Type 0
 PairLess x y = (x.0 < y.0) ⊎ ((x.0 ≡ y.0) × (x.1 < y.1))
@@ -85,12 +86,6 @@ first_less_cell p cell j c of bound short =
     let e : rising b c ≡ (c, b) = rising_turn b c ∙ rising_is c b (omega (arith, short, r.1)) in
     subst (IsLess (for_first cell j c)) (put_self cell j) (put_less cell j (rising b c) (pair_at cell j) bound (subst (λ q. PairLess q (a, b)) (sym e) (inl short)))
 
-pub not_less_self : (cell : Cell) → ¬ (IsLess cell cell)
-not_less_self [] h = h
-not_less_self (x ∷ cell) (inl h) = omega (arith, h)
-not_less_self (x ∷ cell) (inr (_, inl h)) = omega (arith, h)
-not_less_self (x ∷ cell) (inr (_, inr h)) = not_less_self cell h.1
-
 -- the cell is the least predecessor exactly where c stands past each point of the pair with the sign plus
 pub least_where : (p : Problem) (cell : Cell) (j c : ℕ) (m : ℤ × ℤ) → IsOf p cell → suc j ≤ length cell → IsFurtherAt p cell j c
     → ((rho : Cell) → IsPredecessorAt cell j c m rho → ¬ (IsLess rho cell)) ↔ ((pos 0 <ℤ m.0 → (pair_at cell j).0 < c) × (pos 0 <ℤ m.1 → (pair_at cell j).1 < c))
@@ -106,10 +101,10 @@ least_where p cell j c m of bound further = (
     ]),
   )),
   (λ h rho i. elim i [
-    | inl e ↦ λ l. not_less_self cell (subst (λ k. IsLess k cell) e l)
+    | inl e ↦ λ l. less_irrefl cell (subst (λ k. IsLess k cell) e l)
     | inr k ↦ elim k [
-      | inl e ↦ λ l. not_less_self cell (less_trans cell (for_second cell j c) cell (cell_less_second p cell j c of bound (h.1 e.1)) (subst (λ k. IsLess k cell) e.0 l))
-      | inr e ↦ λ l. not_less_self cell (less_trans cell (for_first cell j c) cell (cell_less_first p cell j c of bound further (h.0 e.1)) (subst (λ k. IsLess k cell) e.0 l))
+      | inl e ↦ λ l. less_irrefl cell (less_trans cell (for_second cell j c) cell (cell_less_second p cell j c of bound (h.1 e.1)) (subst (λ k. IsLess k cell) e.0 l))
+      | inr e ↦ λ l. less_irrefl cell (less_trans cell (for_first cell j c) cell (cell_less_first p cell j c of bound further (h.0 e.1)) (subst (λ k. IsLess k cell) e.0 l))
     ]
   ]),
 )

@@ -13,7 +13,7 @@ use Rattle.cayley.specs.Times.{Time}
 use Rattle.cayley.specs.Normals.{Normal, IsNormal, NoneBelow}
 use Rattle.cayley.specs.Cells.{Cell, IsOf, IsIndependent, IsFurther}
 use Rattle.cayley.specs.Lives.{AliveJustBefore}
-use Rattle.cayley.specs.Dependencies.{Numbers, IsDependencyWith, number_at, support_at, pair_at, IsFurtherAt, IsPositiveDependency}
+use Rattle.cayley.specs.Dependencies.{Numbers, IsDependencyWith, number_at, pair_at, IsFurtherAt, IsPositiveDependency, nth_support}
 use Rattle.cayley.specs.Flips.{rising, put_pair, for_first, for_second, IsSuccessorAt, IsPredecessorAt, Flips}
 use Rattle.cayley.proofs.Flipping.Spots.{Spot, problem_of, with_pair, OnlyLevel, IsSuccessor, IsPredecessor}
 use Rattle.cayley.specs.Laws.{Exchange}
@@ -26,7 +26,7 @@ for_first_spot o x c = ap (λ i. put_pair (with_pair o x) (length o.cb) (rising 
 for_second_spot : (o : Spot) (x : ℕ × ℕ) (c : ℕ) → for_second (with_pair o x) (length o.cb) c ≡ with_pair o (rising x.0 c)
 for_second_spot o x c = ap (λ i. put_pair (with_pair o x) (length o.cb) (rising i.0 c)) (pair_at_spot o.cb o.ca x) ∙ put_pair_spot o.cb o.ca x (rising x.0 c)
 
-dependency_spot : (o : Spot) (x : ℕ × ℕ) (c : ℕ) (numbers : Numbers) → IsDependencyWith (problem_of o) (with_pair o x) (length o.cb) (point_at (support_at (problem_of o).supports (length o.cb)) c) numbers
+dependency_spot : (o : Spot) (x : ℕ × ℕ) (c : ℕ) (numbers : Numbers) → IsDependencyWith (problem_of o) (with_pair o x) (length o.cb) (point_at (nth_support (problem_of o).supports (length o.cb)) c) numbers
     → IsDependencyWith (problem_of o) (with_pair o x) (length o.cb) (point_at o.s c) numbers
 dependency_spot o x c numbers = subst (λ s. IsDependencyWith (problem_of o) (with_pair o x) (length o.cb) (point_at s c) numbers) (support_at_spot o.sb o.s o.sa o.cb o.long)
 

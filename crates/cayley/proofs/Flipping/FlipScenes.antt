@@ -6,7 +6,6 @@ use native.Mathlib.Decide.{ℕ_discrete}
 use Rattle.wide_int.proofs.Ring.{as_D, Ds, same_D}
 use Rattle.wide_int.proofs.Order.{zero_product}
 use Rattle.cayley.proofs.Order.Proportion.{in_proportion, zero_in_proportion}
-use Rattle.cayley.proofs.Algebra.RowDependencies.{zero-at}
 use Rattle.cayley.proofs.Algebra.RowNormals.{at-zero}
 use Rattle.cayley.proofs.Order.Lines.{Line, line_at}
 use Rattle.cayley.proofs.Flipping.Neighbours.{level_pair, level_back, dot-sub}
@@ -15,6 +14,7 @@ use Rattle.cayley.proofs.Flipping.PairOrder.{above_other}
 use Rattle.cayley.proofs.Flipping.Exchange.{Others, others_of, here_of, all_of, IsOrthogonal, Circuit, turn, cycle, negate, opposite, opposite-at, seen, orthogonal}
 use Rattle.cayley.proofs.Order.Mirror.{LateAbove, late_above_now, alive_lately}
 use Rattle.int_vectors.specs.Vectors.{IsZero, IsPositive, dot}
+use Rattle.int_vectors.proofs.Entries.{zero_from}
 use Rattle.cayley.specs.Times.{Time}
 use Rattle.cayley.specs.Problems.{Point, point_at, IsProblem}
 use Rattle.cayley.specs.Normals.{Normal, gap, IsNormal, NoneBelow}
@@ -173,7 +173,7 @@ module _ (o : Spot) (t : Time) (x y z : ℕ) (c : Scene o t x y z) where
   rises_opposite l f = omega (arith, ints)
 
   zero_opposite : (l : Line) → IsZero (line_at l t) → IsZero (line_at (opposite l) t)
-  zero_opposite l q = zero-at (line_at (opposite l) t) (λ e. let a = at-zero (line_at l t) e q in opposite-at l t e ∙ omega (arith, ints, a))
+  zero_opposite l q = zero_from (line_at (opposite l) t) (λ e. let a = at-zero (line_at l t) e q in opposite-at l t e ∙ omega (arith, ints, a))
 
   -- the point left out, over the pair, with a rising line
   module _ (l : x < y) (negative : c.circuit.lz <ℤ pos 0) where

@@ -3,17 +3,16 @@ use Rattle.std.proofs.Common.{◌≡◌, ◌≢◌, ℕ, [], ◌∷◌, ◌++◌
 use Rattle.std.proofs.lemmas.Int.{ints}
 use Rattle.std.proofs.Math.IntN.{ℤ, pos, ◌*ℤ◌, neg_ℤ}
 use Rattle.wide_int.proofs.Order.{sign_cases}
-use Rattle.cayley.proofs.Algebra.ScaledInverse.{at-scale}
-use Rattle.cayley.proofs.Algebra.RowDependencies.{zero-at}
 use Rattle.cayley.proofs.Algebra.RowNormals.{at-zero}
-use Rattle.cayley.proofs.Order.Lexicographic.{positive-same, not_zero, not_both, minus_one}
+use Rattle.cayley.proofs.Order.Lexicographic.{positive-same, not_both, minus_one}
 use Rattle.cayley.proofs.Order.Proportion.{in_proportion, zero_in_proportion}
-use Rattle.cayley.proofs.Order.Lines.{Line, line_at, Before, rises, level}
+use Rattle.cayley.proofs.Order.Lines.{Line, line_at, Before, rises, level, middle}
 use Rattle.cayley.proofs.Flipping.Exchange.{here_of, Circuit, turn, cycle, negate, opposite, opposite-at, seen, by_rising, independent_rising}
-use Rattle.cayley.proofs.Order.Times.{middle, turned, turned_both}
+use Rattle.cayley.proofs.Order.Times.{turned, turned_both}
 use Rattle.cayley.proofs.Order.Lined.{turned_line, turn-at}
 use Rattle.cayley.proofs.Flipping.FlipScenes.{FurtherAbove, Scene, turn_scene, cycle_scene, other_scene, independent_scene, of_scene, normal_scene, none_below_scene, line_zero_scene, after_scene, before_scene}
 use Rattle.int_vectors.specs.Vectors.{IsZero, IsPositive, at}
+use Rattle.int_vectors.proofs.Entries.{at-scale, zero_from, not_zero}
 use Rattle.cayley.specs.Times.{Time}
 use Rattle.cayley.specs.Cells.{Cell, IsOf, IsIndependent, IsFurther}
 use Rattle.cayley.specs.Problems.{point_at}
@@ -34,11 +33,11 @@ pub falls_before : (l : Line) (t u : Time) → l.slope <ℤ pos 0 → IsZero (li
 unfolding turned_line
 falls_before l t u f z b =
     positive-same _ _ (turn-at l u)
-    (rises (turned_line l) (turned t) (turned u) (omega (arith, ints)) (turned_both u t b) (inr (zero-at _ (λ e. turn-at l t e ∙ at-zero (line_at l t) e z))))
+    (rises (turned_line l) (turned t) (turned u) (omega (arith, ints)) (turned_both u t b) (inr (zero_from _ (λ e. turn-at l t e ∙ at-zero (line_at l t) e z))))
 
 -- and negative after
 pub falls_after : (l : Line) (t u : Time) → l.slope <ℤ pos 0 → IsZero (line_at l t) → Before t u → IsPositive (line_at (opposite l) u)
-falls_after l t u f z b = rises (opposite l) t u (omega (arith, ints)) b (inr (zero-at _ (λ e. let a = at-zero (line_at l t) e z in opposite-at l t e ∙ omega (arith, ints, a))))
+falls_after l t u f z b = rises (opposite l) t u (omega (arith, ints)) b (inr (zero_from _ (λ e. let a = at-zero (line_at l t) e z in opposite-at l t e ∙ omega (arith, ints, a))))
 
 module _ (o : Spot) (x y z : ℕ) (k : Circuit o x y z) (further : IsFurther o.s x y z) (u : Time) (h : IsAlive (problem_of o) (with_pair o (x, y)) u) where
   gap_alive : IsPositive (gap u h.2.0 (point_at o.s x) (point_at o.s z))
@@ -95,7 +94,7 @@ module _ (o : Spot) (t : Time) (x y z : ℕ) (c : Scene o t x y z) where
       let n = falls_after c.circuit.line t m.m c.falls (line_zero_scene o t x y z c) m.after in
       let a = h.2 m.m m.after m.before in
       sign_cases c.circuit.lz (λ q. q)
-      (λ e. absurd (not_zero (line_at (opposite c.circuit.line) m.m) n (zero-at _ (λ i. let u = at-zero (line_at c.circuit.line m.m) i (zero_alive o x y z c.circuit further_scene m.m a e) in opposite-at c.circuit.line m.m i ∙ omega (arith, ints, u)))))
+      (λ e. absurd (not_zero (line_at (opposite c.circuit.line) m.m) n (zero_from _ (λ i. let u = at-zero (line_at c.circuit.line m.m) i (zero_alive o x y z c.circuit further_scene m.m a e) in opposite-at c.circuit.line m.m i ∙ omega (arith, ints, u)))))
       (λ q. absurd (not_opposite c.circuit.line m.m (line_alive o x y z c.circuit further_scene m.m a q) n))
 
   pub scene_before : AliveJustBefore (problem_of o) (with_pair o (x, y)) t → pos 0 <ℤ c.circuit.lz
@@ -164,7 +163,7 @@ share_rising x y z xy xz yz =
     (λ l. by_rising (λ q. ShareOne (x, y) q) x z xz (λ m. inl (refl, yz)) (λ m. inr (inr (inl refl))))
     (λ l. by_rising (λ q. ShareOne (y, x) q) x z xz (λ m. inr (inr (inr refl))) (λ m. inr (inl (refl, yz))))
 
--- the pair without a point of sign plus precedes the pair without a point of sign minus_one
+-- the pair without a point of sign plus precedes the pair without a point of sign minus
 pub precedes_scene : (o : Spot) (t : Time) (x y z : ℕ) (c : Scene o t x y z) → pos 0 <ℤ c.circuit.lz → c.circuit.ly <ℤ pos 0 → Precedes (problem_of o) (with_pair o (rising x y)) (with_pair o (rising x z)) t
 unfolding other_scene turn_scene cycle_scene turn cycle
 precedes_scene o t x y z c plus minus_one =

@@ -9,8 +9,10 @@ use Rattle.cayley.specs.Problems.{Problem}
 use Rattle.cayley.specs.Cells.{Cell, IsOf, IsLess, IsSorted, IsListOf}
 use Rattle.cayley.specs.Dependencies.{pair_at, IsFurtherAt}
 use Rattle.cayley.specs.Flips.{for_first, for_second, IsPredecessorAt}
-use Rattle.cayley.specs.FlipRules.Sign.{minus, nought, plus}
-use Rattle.cayley.specs.FlipRules.{Sign, HasSign, taken, PastWhere, in_order, predecessors_by}
+use Rattle.cayley.specs.declared.found.Sign.{Sign}
+use Rattle.cayley.specs.declared.found.Sign.TheVariants.{Minus, Zero, Plus}
+use Rattle.cayley.specs.Signs.{HasSign}
+use Rattle.cayley.specs.FlipRules.{taken, PastWhere, in_order, predecessors_by}
 use Rattle.cayley.specs.FlipLaws.{FlipRule, PredecessorRule}
 use Rattle.cayley.proofs.Flipping.Places.{pairs_long, further_bound}
 
@@ -27,28 +29,28 @@ contains_from x y xs (inr h) = let l = h.1 in (suc h.0, omega (arith, l), h.2)
 
 -- with the cell in front where the number is negative
 taken_is : (s : Sign) (k : ℤ) (x y : Cell) (cells : List Cell) → HasSign s k → Contains (taken s x cells) y ↔ (((y ≡ x) × (k <ℤ pos 0)) ⊎ Contains cells y)
-taken_is minus k x y cells h = (
+taken_is Minus k x y cells h = (
   (λ q. elim (contains_to y x cells q) [ inl e ↦ inl (e, h) | inr r ↦ inr r ]),
   (λ q. elim q [ inl e ↦ contains_from y x cells (inl e.0) | inr r ↦ contains_from y x cells (inr r) ]),
 )
-taken_is nought k x y cells h = ((λ q. inr q), (λ q. elim q [ inl e ↦ let n = e.1 in absurd (omega (arith, ints, h, n)) | inr r ↦ r ]))
-taken_is plus k x y cells h = ((λ q. inr q), (λ q. elim q [ inl e ↦ let n = e.1 in absurd (omega (arith, ints, h, n)) | inr r ↦ r ]))
+taken_is Zero k x y cells h = ((λ q. inr q), (λ q. elim q [ inl e ↦ let n = e.1 in absurd (omega (arith, ints, h, n)) | inr r ↦ r ]))
+taken_is Plus k x y cells h = ((λ q. inr q), (λ q. elim q [ inl e ↦ let n = e.1 in absurd (omega (arith, ints, h, n)) | inr r ↦ r ]))
 
 sorted_two : (x y : Cell) (a b : Sign) → IsLess x y → IsSorted (taken b x (taken a y []))
-sorted_two x y minus minus l = (l, tt)
-sorted_two x y nought minus l = tt
-sorted_two x y plus minus l = tt
-sorted_two x y minus nought l = tt
-sorted_two x y nought nought l = tt
-sorted_two x y plus nought l = tt
-sorted_two x y minus plus l = tt
-sorted_two x y nought plus l = tt
-sorted_two x y plus plus l = tt
+sorted_two x y Minus Minus l = (l, tt)
+sorted_two x y Zero Minus l = tt
+sorted_two x y Plus Minus l = tt
+sorted_two x y Minus Zero l = tt
+sorted_two x y Zero Zero l = tt
+sorted_two x y Plus Zero l = tt
+sorted_two x y Minus Plus l = tt
+sorted_two x y Zero Plus l = tt
+sorted_two x y Plus Plus l = tt
 
 past_where : (s : Sign) (k : ℤ) (x c : ℕ) → HasSign s k → (pos 0 <ℤ k → x < c) ↔ PastWhere s x c
-past_where minus k x c h = ((λ q. tt), (λ q n. absurd (omega (arith, ints, h, n))))
-past_where nought k x c h = ((λ q. tt), (λ q n. absurd (omega (arith, ints, h, n))))
-past_where plus k x c h = ((λ q. q h), (λ q n. q))
+past_where Minus k x c h = ((λ q. tt), (λ q n. absurd (omega (arith, ints, h, n))))
+past_where Zero k x c h = ((λ q. tt), (λ q n. absurd (omega (arith, ints, h, n))))
+past_where Plus k x c h = ((λ q. q h), (λ q n. q))
 
 pub flip_rule : FlipRule
 flip_rule p cell j c m a b of further ha hb =
@@ -121,15 +123,15 @@ module _ (p : Problem) (cell : Cell) (j c : ℕ) (m : ℤ × ℤ) (of : IsOf p c
 
 predecessors_are : (p : Problem) (cell : Cell) (j c : ℕ) (m : ℤ × ℤ) (a b : Sign) → IsOf p cell → suc j ≤ length cell → IsFurtherAt p cell j c → HasSign a m.0 → HasSign b m.1
     → ¬ ((pos 0 <ℤ m.0) × (pos 0 <ℤ m.1)) → IsListOf (IsPredecessorAt cell j c m) (predecessors_by cell j c a b)
-predecessors_are p cell j c m minus minus of bound further ha hb n = only_cell p cell j c m of bound further (λ q. omega (arith, ints, ha, q)) (λ q. omega (arith, ints, hb, q))
-predecessors_are p cell j c m minus nought of bound further ha hb n = only_cell p cell j c m of bound further (λ q. omega (arith, ints, ha, q)) (λ q. omega (arith, ints, hb, q))
-predecessors_are p cell j c m nought minus of bound further ha hb n = only_cell p cell j c m of bound further (λ q. omega (arith, ints, ha, q)) (λ q. omega (arith, ints, hb, q))
-predecessors_are p cell j c m nought nought of bound further ha hb n = only_cell p cell j c m of bound further (λ q. omega (arith, ints, ha, q)) (λ q. omega (arith, ints, hb, q))
-predecessors_are p cell j c m plus minus of bound further ha hb n = with_first p cell j c m of bound further ha (λ q. omega (arith, ints, hb, q))
-predecessors_are p cell j c m plus nought of bound further ha hb n = with_first p cell j c m of bound further ha (λ q. omega (arith, ints, hb, q))
-predecessors_are p cell j c m minus plus of bound further ha hb n = with_second p cell j c m of bound further (λ q. omega (arith, ints, ha, q)) hb
-predecessors_are p cell j c m nought plus of bound further ha hb n = with_second p cell j c m of bound further (λ q. omega (arith, ints, ha, q)) hb
-predecessors_are p cell j c m plus plus of bound further ha hb n = absurd (n (ha, hb))
+predecessors_are p cell j c m Minus Minus of bound further ha hb n = only_cell p cell j c m of bound further (λ q. omega (arith, ints, ha, q)) (λ q. omega (arith, ints, hb, q))
+predecessors_are p cell j c m Minus Zero of bound further ha hb n = only_cell p cell j c m of bound further (λ q. omega (arith, ints, ha, q)) (λ q. omega (arith, ints, hb, q))
+predecessors_are p cell j c m Zero Minus of bound further ha hb n = only_cell p cell j c m of bound further (λ q. omega (arith, ints, ha, q)) (λ q. omega (arith, ints, hb, q))
+predecessors_are p cell j c m Zero Zero of bound further ha hb n = only_cell p cell j c m of bound further (λ q. omega (arith, ints, ha, q)) (λ q. omega (arith, ints, hb, q))
+predecessors_are p cell j c m Plus Minus of bound further ha hb n = with_first p cell j c m of bound further ha (λ q. omega (arith, ints, hb, q))
+predecessors_are p cell j c m Plus Zero of bound further ha hb n = with_first p cell j c m of bound further ha (λ q. omega (arith, ints, hb, q))
+predecessors_are p cell j c m Minus Plus of bound further ha hb n = with_second p cell j c m of bound further (λ q. omega (arith, ints, ha, q)) hb
+predecessors_are p cell j c m Zero Plus of bound further ha hb n = with_second p cell j c m of bound further (λ q. omega (arith, ints, ha, q)) hb
+predecessors_are p cell j c m Plus Plus of bound further ha hb n = absurd (n (ha, hb))
 
 pub predecessor_rule : PredecessorRule
 predecessor_rule p cell j c m a b of further = predecessors_are p cell j c m a b of (further_bound p.supports cell j c (pairs_long p.supports cell _ of) further) further

@@ -1,24 +1,23 @@
--- one exchange at one place of a cell
-use Rattle.std.proofs.Common.{◌≡◌, ℕ, suc, List, [], ◌∷◌, ◌++◌, length, arith, refl, sym, ap, ap₂, ◌∙◌, inl, inr}
+-- gaps as differences of potentials; pairs and rows of lists that are put together
+use Rattle.std.proofs.Common.{◌≡◌, ℕ, List, [], ◌∷◌, ◌++◌, length, arith, refl, sym, ap, ap₂, ◌∙◌}
 use Rattle.std.proofs.lemmas.Int.{ints}
 use Rattle.std.proofs.Math.IntN.{ℤ, pos, ◌+ℤ◌, ◌-ℤ◌, ◌*ℤ◌, neg_ℤ}
 use Rattle.wide_int.proofs.Ring.{as_D, Ds, same_D}
 use Rattle.cayley.proofs.Order.Lexicographic.{minus_one}
 use Rattle.cayley.proofs.Algebra.Kernel.{dot_comm}
-use Rattle.cayley.proofs.Algebra.ScaledInverse.{at-add, at-scale, dot-add, dot-scale}
-use Rattle.cayley.proofs.Algebra.RowDependencies.{zero-at}
-use Rattle.cayley.proofs.Algebra.RowNormals.{gap-at, entry, at-zero}
-use Rattle.cayley.proofs.OneCell.CellNormals.{edges}
-use Rattle.int_vectors.specs.Vectors.{IsZero, scale, dot, at, sub}
+use Rattle.cayley.proofs.Algebra.ScaledInverse.{dot-add, dot-scale}
+use Rattle.cayley.proofs.Algebra.RowNormals.{gap-at, at-zero}
+use Rattle.int_vectors.specs.Vectors.{IsZero, scale, dot, at, sub, entries_at}
+use Rattle.int_vectors.proofs.Entries.{at-scale, at-add, zero_from}
 use Rattle.cayley.specs.Problems.{Point, point_at}
 use Rattle.cayley.specs.Times.{Time}
 use Rattle.cayley.specs.Normals.{Normal, height, gap}
 use Rattle.cayley.specs.Cells.{Cell, EachPair}
-use Rattle.cayley.specs.Parents.{DifferInOne, ShareOne}
+use Rattle.cayley.specs.Rows.{edges}
 
 -- ---- gaps are differences of potentials
 unfoldable pub potential : Time → Normal → Point → ℕ → ℤ
-potential t v p e = t.over *ℤ dot p.coordinates (entry e v.entries) +ℤ v.over *ℤ at (height t p) e
+potential t v p e = t.over *ℤ dot p.coordinates (entries_at e v.entries) +ℤ v.over *ℤ at (height t p) e
 
 pub dot-sub : (x y w : List ℤ) → dot (sub x y) w ≡ dot x w -ℤ dot y w
 dot-sub x y w =
@@ -29,21 +28,21 @@ pub gap-potential : (t : Time) (v : Normal) (p q : Point) (e : ℕ) → at (gap 
 unfolding potential
 gap-potential t v p q e =
     gap-at (sub q.coordinates p.coordinates) v.entries (sub (height t q) (height t p)) t.over v.over e
-    ∙ ap₂ (λ x y. t.over *ℤ x +ℤ v.over *ℤ y) (dot-sub q.coordinates p.coordinates (entry e v.entries)) (at-add (height t q) (scale (neg_ℤ (pos 1)) (height t p)) e ∙ ap (λ x. at (height t q) e +ℤ x) (at-scale (neg_ℤ (pos 1)) (height t p) e ∙ minus_one _))
-    ∙ step t.over v.over (dot q.coordinates (entry e v.entries)) (dot p.coordinates (entry e v.entries)) (at (height t q) e) (at (height t p) e)
+    ∙ ap₂ (λ x y. t.over *ℤ x +ℤ v.over *ℤ y) (dot-sub q.coordinates p.coordinates (entries_at e v.entries)) (at-add (height t q) (scale (neg_ℤ (pos 1)) (height t p)) e ∙ ap (λ x. at (height t q) e +ℤ x) (at-scale (neg_ℤ (pos 1)) (height t p) e ∙ minus_one _))
+    ∙ step t.over v.over (dot q.coordinates (entries_at e v.entries)) (dot p.coordinates (entries_at e v.entries)) (at (height t q) e) (at (height t p) e)
   where
     step : (q d x y h k : ℤ) → q *ℤ (x -ℤ y) +ℤ d *ℤ (h +ℤ neg_ℤ k) ≡ q *ℤ x +ℤ d *ℤ h -ℤ (q *ℤ y +ℤ d *ℤ k)
     step q d x y h k = rw (as_D q, as_D d, as_D x, as_D y, as_D h, as_D k) (simp Ds (same_D _ _ _ _ (omega arith)))
 
 -- two points level with a third are level with one another
 pub level_pair : (t : Time) (v : Normal) (p q r : Point) → IsZero (gap t v p q) → IsZero (gap t v p r) → IsZero (gap t v q r)
-level_pair t v p q r x y = zero-at (gap t v q r) (λ e.
+level_pair t v p q r x y = zero_from (gap t v q r) (λ e.
     let a = sym (gap-potential t v p q e) ∙ at-zero _ e x in
     let b = sym (gap-potential t v p r e) ∙ at-zero _ e y in
     gap-potential t v q r e ∙ omega (arith, ints, a, b))
 
 pub level_self : (t : Time) (v : Normal) (p : Point) → IsZero (gap t v p p)
-level_self t v p = zero-at (gap t v p p) (λ e. gap-potential t v p p e ∙ omega (arith, ints))
+level_self t v p = zero_from (gap t v p p) (λ e. gap-potential t v p p e ∙ omega (arith, ints))
 
 pub level_back : (t : Time) (v : Normal) (p q : Point) → IsZero (gap t v p q) → IsZero (gap t v q p)
 level_back t v p q x = level_pair t v p q p x (level_self t v p)
@@ -66,43 +65,6 @@ each_pair-append P [] sa [] ca e f = f
 each_pair-append P [] sa (x ∷ cb) ca e f = absurd e
 each_pair-append P (s ∷ sb) sa [] ca e f = absurd e
 each_pair-append P (s ∷ sb) sa (x ∷ cb) ca e f = (e.0, each_pair-append P sb sa cb ca e.1 f)
-
-pub record Place (supports : List (List Point)) (sigma tau : Cell) : Type 0 where
-  pub sb : List (List Point)
-  pub s : List Point
-  pub sa : List (List Point)
-  pub cb : Cell
-  pub x : ℕ × ℕ
-  pub y : ℕ × ℕ
-  pub ca : Cell
-  pub share : ShareOne x y
-  pub long : length sb ≡ length cb
-  pub supports_is : supports ≡ sb ++ s ∷ sa
-  pub sigma_is : sigma ≡ cb ++ x ∷ ca
-  pub tau_is : tau ≡ cb ++ y ∷ ca
-
-pub place : (P : List Point → ℕ → ℕ → Type 0) (supports : List (List Point)) (sigma tau : Cell) → EachPair supports sigma P → DifferInOne sigma tau → Place supports sigma tau
-place P supports [] tau e d = absurd d
-place P supports (x ∷ sigma) [] e d = absurd d
-place P [] (x ∷ sigma) (y ∷ tau) e d = absurd e
-place P (s ∷ supports) (x ∷ sigma) (y ∷ tau) e (inl d) =
-    record { sb = []; s = s; sa = supports; cb = []; x = x; y = y; ca = sigma; share = d.0; long = refl; supports_is = refl; sigma_is = refl; tau_is = ap (λ l. y ∷ l) (sym d.1) }
-place P (s ∷ supports) (x ∷ sigma) (y ∷ tau) e (inr d) =
-    let q = place P supports sigma tau e.1 d.1 in
-    record {
-      sb = s ∷ q.sb;
-      s = q.s;
-      sa = q.sa;
-      cb = x ∷ q.cb;
-      x = q.x;
-      y = q.y;
-      ca = q.ca;
-      share = q.share;
-      long = ap suc q.long;
-      supports_is = ap (λ l. s ∷ l) q.supports_is;
-      sigma_is = ap (λ l. x ∷ l) q.sigma_is;
-      tau_is = ap₂ (λ z l. z ∷ l) (sym d.0) q.tau_is;
-    }
 
 pub edges-append : (sb sa : List (List Point)) (cb ca : Cell) → length sb ≡ length cb → edges (sb ++ sa) (cb ++ ca) ≡ edges sb cb ++ edges sa ca
 edges-append [] sa [] ca l = refl

@@ -5,7 +5,7 @@ use Rattle.cayley.specs.Times.{Time}
 use Rattle.cayley.specs.Problems.{Version, Point, Problem, point_at}
 use Rattle.cayley.specs.Cells.{Cell, EachPair, IsFurther}
 use Rattle.cayley.specs.Normals.{Normal, gap, IsNormal, NoneBelow}
-use Rattle.cayley.specs.Dependencies.{support_at, pair_at}
+use Rattle.cayley.specs.Dependencies.{pair_at, nth_support}
 use Rattle.cayley.specs.Flips.{put_pair, IsOnlyLevel}
 use Rattle.cayley.proofs.Flipping.Spots.{Spot, problem_of, with_pair, LevelPoint, NoneLevel, OnlyLevel}
 
@@ -56,7 +56,7 @@ pub put_pair_spot : (cb ca : Cell) (x y : ℕ × ℕ) → put_pair (cb ++ x ∷ 
 put_pair_spot [] ca x y = refl
 put_pair_spot (z ∷ cb) ca x y = ap (λ l. z ∷ l) (put_pair_spot cb ca x y)
 
-pub support_at_spot : (sb : List (List Point)) (s : List Point) (sa : List (List Point)) (cb : Cell) → length sb ≡ length cb → support_at (sb ++ s ∷ sa) (length cb) ≡ s
+pub support_at_spot : (sb : List (List Point)) (s : List Point) (sa : List (List Point)) (cb : Cell) → length sb ≡ length cb → nth_support (sb ++ s ∷ sa) (length cb) ≡ s
 support_at_spot [] s sa [] l = refl
 support_at_spot [] s sa (x ∷ cb) l = absurd (omega arith)
 support_at_spot (r ∷ sb) s sa [] l = absurd (omega arith)
@@ -64,13 +64,13 @@ support_at_spot (r ∷ sb) s sa (x ∷ cb) l = support_at_spot sb s sa cb (omega
 
 -- all pairs of one cell
 each_place : (P Q : List Point → ℕ → ℕ → Type 0) (supports : List (List Point)) (cell : Cell) → EachPair supports cell P
-    → ((j : ℕ) → suc j ≤ length cell → Q (support_at supports j) (pair_at cell j).0 (pair_at cell j).1) → EachPair supports cell Q
+    → ((j : ℕ) → suc j ≤ length cell → Q (nth_support supports j) (pair_at cell j).0 (pair_at cell j).1) → EachPair supports cell Q
 each_place P Q [] [] e h = tt
 each_place P Q [] (x ∷ cell) e h = e
 each_place P Q (s ∷ supports) [] e h = e
 each_place P Q (s ∷ supports) (x ∷ cell) e h = (h 0 (omega arith), each_place P Q supports cell e.1 (λ j l. h (suc j) (omega (arith, l))))
 
-pub place_of : (P : List Point → ℕ → ℕ → Type 0) (supports : List (List Point)) (cell : Cell) → EachPair supports cell P → (j : ℕ) → suc j ≤ length cell → P (support_at supports j) (pair_at cell j).0 (pair_at cell j).1
+pub place_of : (P : List Point → ℕ → ℕ → Type 0) (supports : List (List Point)) (cell : Cell) → EachPair supports cell P → (j : ℕ) → suc j ≤ length cell → P (nth_support supports j) (pair_at cell j).0 (pair_at cell j).1
 place_of P [] [] e j l = absurd (omega arith)
 place_of P [] (x ∷ cell) e j l = absurd e
 place_of P (s ∷ supports) [] e j l = absurd e
@@ -79,8 +79,8 @@ place_of P (s ∷ supports) (x ∷ cell) e (suc j) l = place_of P supports cell 
 
 -- the further point c of support j is level
 abbrev pub LevelAt : List (List Point) → Cell → ℕ → ℕ → Time → Normal → Type 0
-LevelAt supports cell j c t v = (suc j ≤ length cell) × IsFurther (support_at supports j) (pair_at cell j).0 (pair_at cell j).1 c
-    × IsZero (gap t v (point_at (support_at supports j) (pair_at cell j).0) (point_at (support_at supports j) c))
+LevelAt supports cell j c t v = (suc j ≤ length cell) × IsFurther (nth_support supports j) (pair_at cell j).0 (pair_at cell j).1 c
+    × IsZero (gap t v (point_at (nth_support supports j) (pair_at cell j).0) (point_at (nth_support supports j) c))
 
 -- the only level point
 pub only_level : (t : Time) (v : Normal) (P : List Point → ℕ → ℕ → Type 0) (supports : List (List Point)) (cell : Cell) (j c : ℕ) → EachPair supports cell P → LevelAt supports cell j c t v
@@ -96,7 +96,7 @@ only_level t v P (s ∷ supports) (x ∷ cell) (suc j) c e l u = (
 )
 
 -- a further point is of a support that has a pair
-pub further_bound : (supports : List (List Point)) (cell : Cell) (j c : ℕ) → length supports ≡ length cell → IsFurther (support_at supports j) (pair_at cell j).0 (pair_at cell j).1 c → suc j ≤ length cell
+pub further_bound : (supports : List (List Point)) (cell : Cell) (j c : ℕ) → length supports ≡ length cell → IsFurther (nth_support supports j) (pair_at cell j).0 (pair_at cell j).1 c → suc j ≤ length cell
 further_bound [] cell j c l f = absurd (let a = f.0 in let b = f.1 in omega (arith, a, b))
 further_bound (s ∷ supports) [] j c l f = absurd (omega (arith, l))
 further_bound (s ∷ supports) (x ∷ cell) zero c l f = omega arith

@@ -3,17 +3,16 @@ use Rattle.std.proofs.Common.{◌≡◌, ◌⊎◌, ℕ, List, [], ◌∷◌, ar
 use Rattle.std.proofs.lemmas.Int.{ints}
 use Rattle.std.proofs.Math.IntN.{ℤ, pos, ◌+ℤ◌, ◌*ℤ◌, neg_ℤ, *ℤ-zero}
 use Rattle.wide_int.proofs.Ring.{as_D, Ds, same_D}
-use Rattle.cayley.proofs.Algebra.ScaledInverse.{at-add, at-scale}
-use Rattle.cayley.proofs.Algebra.RowDependencies.{zero-at}
 use Rattle.cayley.proofs.Algebra.RowNormals.{at-zero}
 use Rattle.wide_int.proofs.Order.{sign_cases}
-use Rattle.cayley.proofs.Order.Lexicographic.{positive-same, positive-unscale, not_zero, not_both, three, minus_one}
+use Rattle.cayley.proofs.Order.Lexicographic.{positive-same, positive-unscale, not_both, three, minus_one}
 use Rattle.cayley.proofs.Order.Lines.{Line, line_at, later, Before, NotNegative, AllPositive, SignAfter, before_trans, zero_of, before_zero, rises, level}
 use Rattle.cayley.proofs.Searching.Listing.{Has}
 use Rattle.cayley.proofs.Order.Times.{Same, same_sym, same_trans, time_cases, same_before}
 use Rattle.cayley.proofs.Order.Lined.{Lined, Early, Begins, SignEarly, after_from, rise_of, before_rise, at_rise, own_zero, each_has, early_from, line_same, flat-at}
 use Rattle.cayley.proofs.Life.Decisions.{lined_cell}
 use Rattle.int_vectors.specs.Vectors.{Each, IsZero, IsPositive, scale, at}
+use Rattle.int_vectors.proofs.Entries.{at-scale, at-add, zero_from, not_zero}
 use Rattle.cayley.specs.Times.{Time, IsBefore}
 use Rattle.cayley.specs.Problems.{Problem, IsProblem}
 use Rattle.cayley.specs.Cells.{Cell}
@@ -85,7 +84,7 @@ minus-at l t e = simp (at-add, at-scale) (ring t.over (at l.start e) l.slope (at
     ring q a b x z w e f = rw (e, f) (ring1 q a b x)
 
 zero_minus : (l : Line) (t : Time) → IsZero (line_at l t) → IsZero (line_at (minus_line l) t)
-zero_minus l t z = zero-at _ (λ e. minus-at l t e ∙ at-scale (neg_ℤ (pos 1)) (line_at l t) e ∙ ap (λ x. neg_ℤ (pos 1) *ℤ x) (at-zero (line_at l t) e z) ∙ *ℤ-zero (neg_ℤ (pos 1)))
+zero_minus l t z = zero_from _ (λ e. minus-at l t e ∙ at-scale (neg_ℤ (pos 1)) (line_at l t) e ∙ ap (λ x. neg_ℤ (pos 1) *ℤ x) (at-zero (line_at l t) e z) ∙ *ℤ-zero (neg_ℤ (pos 1)))
 
 -- ---- from a time at which all are positive
 -- a rising line that is positive at x has its zero before x
@@ -96,7 +95,7 @@ zero_before l r x p =
     (λ s. absurd (not_zero (line_at l (rise_of l r)) (line_same l x (rise_of l r) (same_sym (rise_of l r) x s) p) (own_zero l r)))
     (λ b. absurd (not_both (line_at l x) p (before_rise l r x b)))
 
-zero_there : (l : Line) (t u : Time) → Same t u → IsZero (line_at l t) → IsZero (line_at l u)
+pub zero_there : (l : Line) (t u : Time) → Same t u → IsZero (line_at l t) → IsZero (line_at l u)
 zero_there l t u s z =
     three (line_at l u)
     (λ n. absurd (elsewhere n))

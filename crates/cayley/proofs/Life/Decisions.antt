@@ -1,23 +1,25 @@
 -- for a cell and a time: of the problem, independent, alive, alive just before, just after, at all early times; where it begins
-use Rattle.std.proofs.Common.{◌≡◌, ◌⊎◌, ℕ, suc, List, [], ◌∷◌, length, arith, refl, ap, ◌∙◌, inl, inr}
+use Rattle.std.proofs.Common.{◌≡◌, ◌⊎◌, ℕ, List, [], ◌∷◌, length, arith, ◌∙◌, inl, inr}
 use Rattle.std.proofs.lemmas.Int.{ints}
 use Rattle.std.proofs.Math.IntN.{ℤ, pos}
 use native.Mathlib.Decide.{dec_le, dec_lt}
 use Rattle.cayley.proofs.Algebra.Kernel.{Kills}
-use Rattle.cayley.proofs.Order.Lexicographic.{not_zero}
-use Rattle.cayley.proofs.OneCell.CellNormals.{edges, kills_to, a_normal}
+use Rattle.cayley.proofs.OneCell.CellNormals.{kills_to, a_normal, length-edges}
 use Rattle.cayley.proofs.Algebra.Deciding.{decide_independent}
 use Rattle.cayley.proofs.OneCell.CellLines.{point_line}
 use Rattle.cayley.proofs.Order.Soon.{each_pair-map}
-use Rattle.cayley.proofs.Order.Times.{Same, middle, sooner}
+use Rattle.cayley.proofs.Order.Times.{Same, sooner}
 use Rattle.cayley.proofs.Order.Lined.{Lined, lined_map, lined_further, lined_pairs, dec_now, dec_after, dec_ahead, dec_early, dec_begins, find_begin, begins_once}
 use Rattle.int_vectors.specs.Vectors.{IsZero, IsPositive, scale, sub, dot}
+use Rattle.int_vectors.proofs.Entries.{not_zero}
 use Rattle.cayley.specs.Times.{Time}
 use Rattle.cayley.specs.Problems.{Point, Problem, point_at, IsProblem}
 use Rattle.cayley.specs.Normals.{Normal, gap, IsNormal}
 use Rattle.cayley.specs.Cells.{Cell, EachPair, IsOf, IsIndependent, IsFurther}
 use Rattle.cayley.specs.Mixed.{IsAlive}
 use Rattle.cayley.specs.Lives.{AliveJustAfter, AliveJustBefore, AliveEarly, BeginsAt}
+use Rattle.cayley.specs.Rows.{edges}
+use Rattle.cayley.proofs.Order.Lines.{middle}
 
 -- ---- of the problem
 pub dec_pairs : (supports : List (List Point)) (cell : Cell) (P : List Point → ℕ → ℕ → Type 0) → ((s : List Point) (a b : ℕ) → Dec (P s a b)) → Dec (EachPair supports cell P)
@@ -39,12 +41,6 @@ dec_of p cell = dec_pairs p.supports cell _ (λ s a b. elim (dec_le 1 a) [
 ])
 
 -- ---- independent
-pub long-edges : (supports : List (List Point)) (cell : Cell) (P : List Point → ℕ → ℕ → Type 0) → EachPair supports cell P → length (edges supports cell) ≡ length supports
-long-edges [] [] P e = refl
-long-edges [] (pair ∷ cell) P e = absurd e
-long-edges (s ∷ supports) [] P e = absurd e
-long-edges (s ∷ supports) (pair ∷ cell) P e = ap suc (long-edges supports cell P e.1)
-
 pub kills_of : (supports : List (List Point)) (cell : Cell) (v : List ℤ)
     → EachPair supports cell (λ s a b. dot (sub (point_at s b).coordinates (point_at s a).coordinates) v ≡ pos 0) → Kills (edges supports cell) v
 kills_of [] cell v e = tt
@@ -52,7 +48,7 @@ kills_of (s ∷ supports) [] v e = tt
 kills_of (s ∷ supports) (x ∷ cell) v e = (e.0, kills_of supports cell v e.1)
 
 pub dec_independent : (p : Problem) (cell : Cell) → IsProblem p → IsOf p cell → Dec (IsIndependent p cell)
-dec_independent p cell well of = elim (decide_independent p.dimension (edges p.supports cell) (long-edges p.supports cell _ of ∙ well.supports)) [
+dec_independent p cell well of = elim (decide_independent p.dimension (edges p.supports cell) (length-edges p.supports cell _ of ∙ well.supports)) [
   | inl k ↦ no (λ ind. k.some (ind k.v k.long (kills_to p.supports cell k.v _ of k.kills)))
   | inr i ↦ yes (λ v l e. i v l (kills_of p.supports cell v e))
 ]

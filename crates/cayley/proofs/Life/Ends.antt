@@ -4,23 +4,22 @@ use Rattle.std.proofs.Math.IntN.{ℤ, pos, ◌+ℤ◌, ◌*ℤ◌, neg_ℤ}
 use Rattle.wide_int.proofs.Ring.{as_D, Ds, same_D, D-pos}
 use Rattle.wide_int.proofs.Order.{sign_cases}
 use Rattle.cayley.proofs.Order.Lexicographic.{minus_one}
-use Rattle.cayley.proofs.Algebra.ScaledInverse.{at-add, at-scale}
-use Rattle.cayley.proofs.Algebra.RowDependencies.{zero-at}
-use Rattle.cayley.proofs.Order.Lines.{Line, line_at, Before, AllPositive, before_trans, zero_of, before_zero, rises, level}
-use Rattle.cayley.proofs.Order.Times.{Same, same_sym, time_cases, middle, turned, turned_one, turned_both, turned_back}
+use Rattle.cayley.proofs.Order.Lines.{Line, line_at, Before, AllPositive, before_trans, zero_of, before_zero, rises, level, middle}
+use Rattle.cayley.proofs.Order.Times.{Same, same_sym, time_cases, turned, turned_one, turned_both, turned_back}
 use Rattle.cayley.proofs.Order.Lined.{Lined, Ahead, mirrored, ahead_from, ahead_to, after_same, now_same, none_before}
 use Rattle.cayley.proofs.Life.Begins.{early_or_begins}
 use Rattle.cayley.proofs.Life.Decisions.{lined_cell}
 use Rattle.cayley.specs.Times.{Time, IsBefore}
 use Rattle.int_vectors.specs.Vectors.{IsPositive, at}
+use Rattle.int_vectors.proofs.Entries.{at-scale, at-add, zero_from}
 use Rattle.cayley.specs.Problems.{Problem, IsProblem}
 use Rattle.cayley.specs.Cells.{Cell}
 use Rattle.cayley.specs.Mixed.{IsAlive}
-use Rattle.cayley.specs.Lives.{BeginsAt, AliveLate, EndsAt}
+use Rattle.cayley.specs.Lives.{AliveLate, EndsAt}
 
 pub turned_twice : (t : Time) → Same t (turned (turned t))
 unfolding turned
-turned_twice t = zero-at _ (λ e. simp (at-add, at-scale) (ring t.over (at t.entries e) _ _ (minus_one (at t.entries e)) (minus_one _)))
+turned_twice t = zero_from _ (λ e. simp (at-add, at-scale) (ring t.over (at t.entries e) _ _ (minus_one (at t.entries e)) (minus_one _)))
   where
     ring1 : (q x : ℤ) → q *ℤ neg_ℤ (neg_ℤ x) +ℤ neg_ℤ q *ℤ x ≡ pos 0
     ring1 q x = rw (as_D q, as_D x, D-pos 0) (simp Ds (same_D _ _ _ _ (omega arith)))
@@ -63,10 +62,6 @@ cell_ends p cell well x h = late_or_ends (IsAlive p cell) (lined_cell p cell wel
 
 pub cell_between : (p : Problem) (cell : Cell) → IsProblem p → (x m y : Time) → IsBefore x m → IsBefore m y → IsAlive p cell x → IsAlive p cell y → IsAlive p cell m
 cell_between p cell well x m y a b h k = between (IsAlive p cell) (lined_cell p cell well) x m y a b h k
-
--- a cell is alive at no time before it begins, and at no time after it ends
-pub not_before : (p : Problem) (cell : Cell) → IsProblem p → (t x : Time) → BeginsAt p cell t → IsBefore x t → ¬ (IsAlive p cell x)
-not_before p cell well t x h b = none_before (IsAlive p cell) (lined_cell p cell well) t x h b
 
 none_after : (P : Time → Type 0) → Lined P → (t x : Time) → Ends P t → Before t x → ¬ (P x)
 none_after P p t x h b k =

@@ -1,7 +1,6 @@
 -- a cell precedes only where it ends, and is preceded only where it begins; the children of a cell are found at its end
-use Rattle.std.proofs.Common.{◌↔◌, ℕ, ◌<◌, ◌≤◌, List, [], ◌∷◌, length, map, arith, sym, subst, inl, inr}
+use Rattle.std.proofs.Common.{◌↔◌, ℕ, ◌<◌, ◌≤◌, List, [], ◌∷◌, length, arith, sym, subst, inl, inr}
 use Rattle.std.specs.Prelude.{Contains}
-use Rattle.cayley.proofs.Order.Lexicographic.{not_zero}
 use Rattle.cayley.proofs.Order.Proportion.{in_proportion}
 use Rattle.cayley.proofs.Order.Soon.{each_pair-map}
 use Rattle.cayley.proofs.Flipping.Neighbours.{level_pair, level_back}
@@ -11,26 +10,27 @@ use Rattle.cayley.proofs.Order.Times.{same_sym, same_before, time_cases}
 use Rattle.cayley.proofs.Life.Decisions.{alive_before, alive_after}
 use Rattle.cayley.proofs.Searching.Parents.{precedes_same}
 use Rattle.cayley.proofs.Life.Ends.{ends_at_once, not_after}
-use Rattle.int_vectors.specs.Vectors.{Each, IsZero, IsPositive}
+use Rattle.int_vectors.specs.Vectors.{IsZero, IsPositive}
+use Rattle.int_vectors.proofs.Entries.{not_zero}
 use Rattle.cayley.specs.Times.{Time}
 use Rattle.cayley.specs.Problems.{Point, Problem, point_at, IsProblem}
 use Rattle.cayley.specs.Normals.{Normal, gap, IsNormal}
-use Rattle.cayley.specs.Cells.{Cell, EachPair, IsOf, IsFurther, IsLess, IsListOf}
+use Rattle.cayley.specs.Cells.{Cell, EachPair, IsOf, IsFurther, IsLess}
 use Rattle.cayley.specs.Mixed.{IsAlive}
 use Rattle.cayley.specs.Lives.{BeginsAt, AliveLate, EndsAt}
 use Rattle.cayley.specs.Parents.{ShareOne, DifferInOne, Precedes, IsParent}
-use Rattle.cayley.specs.Shares.{Branch, IsTrueBranch, IsChildren}
+use Rattle.cayley.specs.Shares.{IsChildren}
 
-share_sym : (x y : ℕ × ℕ) → ShareOne x y → ShareOne y x
-share_sym x y (inl h) = inl (sym h.0, (λ q. h.1 (sym q)))
-share_sym x y (inr (inl h)) = inr (inl (sym h.0, (λ q. h.1 (sym q))))
-share_sym x y (inr (inr (inl e))) = inr (inr (inr (sym e)))
-share_sym x y (inr (inr (inr e))) = inr (inr (inl (sym e)))
+pub share_back : (x y : ℕ × ℕ) → ShareOne x y → ShareOne y x
+share_back x y (inl h) = inl (sym h.0, λ e. h.1 (sym e))
+share_back x y (inr (inl h)) = inr (inl (sym h.0, λ e. h.1 (sym e)))
+share_back x y (inr (inr (inl h))) = inr (inr (inr (sym h)))
+share_back x y (inr (inr (inr h))) = inr (inr (inl (sym h)))
 
 pub differ_sym : (sigma tau : Cell) → DifferInOne sigma tau → DifferInOne tau sigma
 differ_sym [] tau d = absurd d
 differ_sym (x ∷ sigma) [] d = absurd d
-differ_sym (x ∷ sigma) (y ∷ tau) (inl h) = inl (share_sym x y h.0, sym h.1)
+differ_sym (x ∷ sigma) (y ∷ tau) (inl h) = inl (share_back x y h.0, sym h.1)
 differ_sym (x ∷ sigma) (y ∷ tau) (inr h) = inr (sym h.0, differ_sym sigma tau h.1)
 
 -- the new point of the other pair is a further point, and level
@@ -111,7 +111,3 @@ late_children p sigma well l = (tt, (tt, (λ c. ((λ k. absurd (nothing_in c k))
   where
     nothing_in : (c : Cell) → ¬ (Contains {X = Cell} [] c)
     nothing_in c k = let l = k.1 in omega arith
-
--- the kept successors at the end, each with this time
-pub exit_children : (p : Problem) (sigma : Cell) (t : Time) (kids : List Branch) → IsProblem p → EndsAt p sigma t → Each kids (IsTrueBranch p) → IsListOf (IsChildAt p sigma t) (map (λ (b : Branch). b.cell) kids) → IsChildren p sigma kids
-exit_children p sigma t kids well e true_kids l = (true_kids, (l.0, (λ c. ((λ k. (child_at p sigma c t well e).1 ((l.1 c).0 k)), (λ h. (l.1 c).1 ((child_at p sigma c t well e).0 h))))))

@@ -1,18 +1,18 @@
 -- where a cell begins or ends no further point is below, and some further point is level
 use Rattle.std.proofs.Common.{◌⊎◌, ℕ, zero, suc, ◌<◌, List, [], ◌∷◌, length, arith, sym, subst, ◌∙◌, inl, inr}
 use native.Mathlib.Decide.{ℕ_discrete}
-use Rattle.cayley.proofs.Algebra.RowDependencies.{zero-at}
 use Rattle.cayley.proofs.Order.Lexicographic.{positive-same}
 use Rattle.cayley.proofs.Order.Proportion.{either_in_proportion, in_proportion}
 use Rattle.cayley.proofs.Algebra.RowNormals.{at-zero}
-use Rattle.cayley.proofs.Order.Lines.{Line, line_at, just_after_to}
+use Rattle.cayley.proofs.Order.Lines.{Line, line_at, just_after_to, middle}
 use Rattle.cayley.proofs.OneCell.CellLines.{exact_line}
 use Rattle.cayley.proofs.Order.Soon.{each_pair-map}
-use Rattle.cayley.proofs.Order.Times.{middle, turned}
+use Rattle.cayley.proofs.Order.Times.{turned}
 use Rattle.cayley.proofs.Order.Lined.{Lined, Ahead, mirrored, ahead_to, after_to, turned_line, turn-at, further_cases}
 use Rattle.cayley.proofs.Life.Walls.{SomeFurther}
 use Rattle.cayley.proofs.Life.Decisions.{alive_after, alive_before}
 use Rattle.int_vectors.specs.Vectors.{IsZero, IsPositive}
+use Rattle.int_vectors.proofs.Entries.{zero_from}
 use Rattle.cayley.specs.Times.{Time, IsBefore}
 use Rattle.cayley.specs.Problems.{Point, Problem, point_at, IsProblem}
 use Rattle.cayley.specs.Normals.{Normal, gap, IsNormal, NoneBelow}
@@ -67,7 +67,7 @@ line_before l t h =
     let s = after_to (λ x. IsPositive (line_at l (turned x))) (mirrored (λ x. IsPositive (line_at l x)) (one_line l)) (turned t) (ahead_to (λ x. IsPositive (line_at l x)) (one_line l) t h) in
     elim s.0 [
       | inl p ↦ inl (positive-same _ _ (turn-at l t) p)
-      | inr z ↦ inr (zero-at _ (λ e. sym (turn-at l t e) ∙ at-zero (line_at (turned_line l) (turned t)) e z.0))
+      | inr z ↦ inr (zero_from _ (λ e. sym (turn-at l t e) ∙ at-zero (line_at (turned_line l) (turned t)) e z.0))
     ]
 
 pub before_none_below : (p : Problem) (cell : Cell) → IsProblem p → (t : Time) (v : Normal) → AliveJustBefore p cell t → IsNormal p cell t v → NoneBelow p cell t v

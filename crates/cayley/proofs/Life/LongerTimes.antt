@@ -3,21 +3,20 @@ use Rattle.std.proofs.Common.{◌≡◌, ◌≢◌, ◌⊎◌, ℕ, zero, suc, �
 use Rattle.std.proofs.lemmas.Int.{ints}
 use Rattle.std.proofs.Math.IntN.{ℤ, pos, ◌+ℤ◌, ◌-ℤ◌, ◌*ℤ◌}
 use Rattle.wide_int.proofs.Order.{zero_product}
-use Rattle.int_vectors.specs.Vectors.{IsZero, at, at_place, dot}
+use Rattle.int_vectors.specs.Vectors.{IsZero, at, at_place, dot, entries_at}
+use Rattle.int_vectors.proofs.Entries.{at-scale, at-add, not_zero}
 use Rattle.cayley.specs.Times.{Time, time_zero}
 use Rattle.cayley.specs.Problems.{Point, Problem, point_at, IsProblem}
 use Rattle.cayley.specs.Cells.{Cell, IsOf, IsIndependent}
 use Rattle.cayley.specs.Normals.{Normal, mark, height, gap, IsNormal, IsAbove, IsLevel, NoneBelow}
 use Rattle.cayley.specs.Mixed.{IsAlive}
-use Rattle.cayley.specs.Dependencies.{support_at, pair_at}
+use Rattle.cayley.specs.Dependencies.{pair_at, nth_support}
 use Rattle.cayley.specs.StoredTies.{Spot, IsAlwaysLevel}
 use Rattle.cayley.specs.NamedTies.{IsLevelThen}
 use Rattle.cayley.specs.LongerTimes.{HasRanksUpTo, IsZeroPast, LongerTimesLaw}
-use Rattle.cayley.proofs.Algebra.Kernel.{length-map}
-use Rattle.cayley.proofs.Algebra.ScaledInverse.{at-add, at-scale, dot-zero}
-use Rattle.cayley.proofs.Algebra.RowNormals.{entry, at-zero}
+use Rattle.cayley.proofs.Algebra.ScaledInverse.{dot-zero}
+use Rattle.cayley.proofs.Algebra.RowNormals.{at-zero}
 use Rattle.cayley.proofs.Lists.KnownPoints.{known_at, known_support, known_pairs}
-use Rattle.cayley.proofs.Order.Lexicographic.{not_zero}
 use Rattle.cayley.proofs.Order.Lines.{line_at}
 use Rattle.cayley.proofs.Flipping.Neighbours.{potential, gap-potential, dot-sub}
 use Rattle.cayley.proofs.OneCell.CellLines.{base_of, height-at}
@@ -26,6 +25,7 @@ use Rattle.cayley.proofs.Life.Decisions.{alive_after, alive_before}
 use Rattle.cayley.proofs.Life.Levels.{after_none_below, before_none_below}
 use Rattle.cayley.proofs.Life.Spots.{first_spot}
 use Rattle.cayley.proofs.Life.NamedTies.{points_in, spot_bound, pair_place, place_pair, exact, line, level_to, flat_from, dec_level, level_at_any}
+use Rattle.cayley.proofs.Algebra.Dependence.{length-map}
 
 -- ---- entries past the rank
 place_past : (k : ℕ) (q : ℤ) (e : ℕ) → k < e → at (at_place k q) e ≡ pos 0
@@ -49,9 +49,9 @@ height_past x r e k l =
     nothing : (b s : ℤ) → b ≡ pos 0 +ℤ pos 0 → pos 1 *ℤ b +ℤ s *ℤ pos 0 ≡ pos 0
     nothing b s h = omega (arith, ints, h)
 
-potential_is : (v : Normal) (x : Point) (r e : ℕ) → x.rank ≤ r → r < e → potential time_zero v x e ≡ dot x.coordinates (entry e v.entries)
+potential_is : (v : Normal) (x : Point) (r e : ℕ) → x.rank ≤ r → r < e → potential time_zero v x e ≡ dot x.coordinates (entries_at e v.entries)
 unfolding potential
-potential_is v x r e k l = ap (λ h. pos 1 *ℤ dot x.coordinates (entry e v.entries) +ℤ v.over *ℤ h) (height_past x r e k l) ∙ nothing (dot x.coordinates (entry e v.entries)) v.over
+potential_is v x r e k l = ap (λ h. pos 1 *ℤ dot x.coordinates (entries_at e v.entries) +ℤ v.over *ℤ h) (height_past x r e k l) ∙ nothing (dot x.coordinates (entries_at e v.entries)) v.over
   where
     nothing : (d o : ℤ) → pos 1 *ℤ d +ℤ o *ℤ pos 0 ≡ d
     nothing d o = omega (arith, ints)
@@ -65,26 +65,26 @@ module _ (p : Problem) (cell : Cell) (well : IsProblem p) (of : IsOf p cell) (in
   Low r x = x.rank ≤ r
 
   -- the entries of a normal past the ranks are orthogonal to all differences
-  entry_zero : (r : ℕ) → HasRanksUpTo p r → (v : Normal) → IsNormal p cell time_zero v → (e : ℕ) → r < e → IsZero (entry e v.entries)
+  entry_zero : (r : ℕ) → HasRanksUpTo p r → (v : Normal) → IsNormal p cell time_zero v → (e : ℕ) → r < e → IsZero (entries_at e v.entries)
   entry_zero r ranks v n e l =
-      ind (entry e v.entries) (length-map (λ w. at w e) v.entries ∙ n.0)
+      ind (entries_at e v.entries) (length-map (λ w. at w e) v.entries ∙ n.0)
       (known_pairs (Low r) p.supports cell _ _ ranks (λ s a b k z.
       let x = point_at s a in let y = point_at s b in
       let i = potential_is v x r e (known_at (Low r) (omega arith) s (a - 1) k) l in
       let j = potential_is v y r e (known_at (Low r) (omega arith) s (b - 1) k) l in
-      dot-sub y.coordinates x.coordinates (entry e v.entries) ∙ sym (ap₂ ◌-ℤ◌ j i) ∙ sym (gap-potential time_zero v x y e) ∙ at-zero (gap time_zero v x y) e z) n.1)
+      dot-sub y.coordinates x.coordinates (entries_at e v.entries) ∙ sym (ap₂ ◌-ℤ◌ j i) ∙ sym (gap-potential time_zero v x y e) ∙ at-zero (gap time_zero v x y) e z) n.1)
 
   start_past : (r : ℕ) → HasRanksUpTo p r → (j c e : ℕ) → r < e → at (exact p cell well of ind j c).line.start e ≡ pos 0
   start_past r ranks j c e l =
       let m = exact p cell well of ind j c in
       let v = a_normal p cell well of ind time_zero in
-      let s = support_at p.supports j in
+      let s = nth_support p.supports j in
       let k = known_support (Low r) p.supports j ranks in
       let x = point_at s (pair_at cell j).0 in
       let y = point_at s c in
       let z = entry_zero r ranks v.0 v.1 e l in
-      let i = potential_is v.0 x r e (known_at (Low r) (omega arith) s ((pair_at cell j).0 - 1) k) l ∙ dot-zero x.coordinates (entry e v.0.entries) z in
-      let h = potential_is v.0 y r e (known_at (Low r) (omega arith) s (c - 1) k) l ∙ dot-zero y.coordinates (entry e v.0.entries) z in
+      let i = potential_is v.0 x r e (known_at (Low r) (omega arith) s ((pair_at cell j).0 - 1) k) l ∙ dot-zero x.coordinates (entries_at e v.0.entries) z in
+      let h = potential_is v.0 y r e (known_at (Low r) (omega arith) s (c - 1) k) l ∙ dot-zero y.coordinates (entries_at e v.0.entries) z in
       let g = gap-potential time_zero v.0 x y e ∙ ap₂ ◌-ℤ◌ h i in
       let a = m.is time_zero v.0 v.1 e ∙ ap (λ w. m.g *ℤ w) g in
       let b : at (line_at m.line time_zero) e ≡ pos 1 *ℤ at m.line.start e +ℤ m.line.slope *ℤ pos 0 = simp (at-add, at-scale) refl in
@@ -134,7 +134,7 @@ module _ (p : Problem) (cell : Cell) (well : IsProblem p) (of : IsOf p cell) (in
 alive_moves : (p : Problem) (cell : Cell) (u : Time) → IsAlive p cell u → (x : Spot) → ¬ (IsAlwaysLevel p cell x)
 alive_moves p cell u h x k =
     let v = h.2 in
-    not_zero (gap u v.0 (point_at (support_at p.supports (x.0 - 1)) (pair_at cell (x.0 - 1)).0) (point_at (support_at p.supports (x.0 - 1)) x.1))
+    not_zero (gap u v.0 (point_at (nth_support p.supports (x.0 - 1)) (pair_at cell (x.0 - 1)).0) (point_at (nth_support p.supports (x.0 - 1)) x.1))
     (pair_place (λ s a c. IsAbove u v.0 s a c) p.supports cell v.2 (x.0 - 1) x.1 k.0.1) (k.1 u v.0 v.1)
 
 pub longer_times_law : LongerTimesLaw

@@ -1,7 +1,6 @@
 -- the named tie: it is shown, a cell that has a tie has one, and has one only
-use Rattle.std.proofs.Common.{◌≡◌, ◌⊎◌, ℕ, zero, suc, ◌+◌, ◌-◌, ◌<◌, ◌≤◌, List, [], ◌∷◌, length, Option, None, Some, arith, refl, sym, ap, subst, inl, inr, ◌<ℤ◌}
-use Rattle.std.proofs.lemmas.Int.{ints}
-use Rattle.std.proofs.Math.IntN.{ℤ, pos, ℤ_discrete}
+use Rattle.std.proofs.Common.{◌≡◌, ◌⊎◌, ℕ, zero, suc, ◌+◌, ◌-◌, ◌<◌, ◌≤◌, List, [], ◌∷◌, length, Option, None, Some, arith, refl, sym, ap, subst, inl, inr}
+use Rattle.std.proofs.Math.IntN.{pos, ℤ_discrete}
 use native.Mathlib.Decide.{dec_le}
 use Rattle.wide_int.proofs.Order.{sign_cases}
 use Rattle.int_vectors.specs.Vectors.{IsZero}
@@ -9,7 +8,7 @@ use Rattle.cayley.specs.Times.{Time, IsBefore, IsSameTime, time_zero}
 use Rattle.cayley.specs.Problems.{Point, Problem, point_at, IsProblem}
 use Rattle.cayley.specs.Cells.{Cell, EachPair, IsOf, IsIndependent, IsFurther}
 use Rattle.cayley.specs.Normals.{Normal, gap, IsNormal, IsLevel, IsAbove}
-use Rattle.cayley.specs.Dependencies.{support_at, pair_at, IsFurtherAt}
+use Rattle.cayley.specs.Dependencies.{pair_at, IsFurtherAt, nth_support}
 use Rattle.cayley.specs.Ties.{IsTie}
 use Rattle.cayley.specs.StoredTies.{Spot, IsEarlier, IsFurtherSpot, IsLevelSpot, IsAlwaysLevel, ShowsTie}
 use Rattle.cayley.specs.NamedTies.{InSpan, IsLowerEnd, IsUpperEnd, NoLowerEnd, NoUpperEnd, IsLevelThen, IsFirst, AreFirstTwo, IsLowerTie, IsUpperTie, IsNamedTie, NamedIsShownLaw, NamedTieLaw, OneNamedTieLaw}
@@ -17,18 +16,20 @@ use Rattle.cayley.proofs.Order.Lines.{Line, line_at, NotNegative, next, before_n
 use Rattle.cayley.proofs.Order.Proportion.{either_in_proportion, zero_in_proportion}
 use Rattle.cayley.proofs.Order.Times.{Same, same_sym, same_self, same_trans, time_cases, sooner}
 use Rattle.cayley.proofs.Order.Lined.{further_cases, dec_zero}
-use Rattle.cayley.proofs.Order.Spans.{Spanned, spanned_always, spanned_map, spanned_below, span_same, level_zero, zero_still, two_zeros, lower_once, upper_once, lower_or, upper_or, rising_lower, falling_upper}
+use Rattle.cayley.proofs.Order.Spans.{Spanned, spanned_always, spanned_map, spanned_below, span_same, level_zero, two_zeros, lower_once, upper_once, lower_or, upper_or, rising_lower, falling_upper}
 use Rattle.cayley.proofs.OneCell.CellNormals.{a_normal}
 use Rattle.cayley.proofs.OneCell.CellLines.{ExactLine, exact_line}
 use Rattle.cayley.proofs.Life.Spots.{spot_cases, first_spot, first_two, one_first, same_two}
 use Rattle.cayley.proofs.Life.ShownTies.{shown_tie_law}
+use Rattle.cayley.proofs.Life.Begins.{zero_there}
+use Rattle.cayley.proofs.Life.StillGaps.{not_zero_over}
 
 -- ---- further points by their places
 abbrev pub points_in : List (List Point) → ℕ
 points_in [] = 0
 points_in (s ∷ supports) = length s + points_in supports
 
-place_bound : (supports : List (List Point)) (j c : ℕ) → 1 ≤ c → c ≤ length (support_at supports j) → (j < length supports) × (c ≤ points_in supports)
+place_bound : (supports : List (List Point)) (j c : ℕ) → 1 ≤ c → c ≤ length (nth_support supports j) → (j < length supports) × (c ≤ points_in supports)
 place_bound [] j c p q = absurd (omega (arith, p, q))
 place_bound (s ∷ supports) zero c p q = let b : c ≤ length s = q in let g : c ≤ length s + points_in supports = omega (arith, b) in (omega arith, g)
 place_bound (s ∷ supports) (suc j) c p q = let r = place_bound supports j c p q in let a = r.0 in let b = r.1 in let g : c ≤ length s + points_in supports = omega (arith, b) in (omega (arith, a), g)
@@ -42,31 +43,28 @@ spot_bound p cell x f =
 dec_further : (p : Problem) (cell : Cell) (x : Spot) → Dec (IsFurtherSpot p cell x)
 dec_further p cell x = elim (dec_le 1 x.0) [
   | no n ↦ no (λ f. n f.0)
-  | yes l ↦ further_cases (support_at p.supports (x.0 - 1)) (pair_at cell (x.0 - 1)).0 (pair_at cell (x.0 - 1)).1 x.1 (λ f. yes (l, f)) (λ n. no (λ f. n f.1))
+  | yes l ↦ further_cases (nth_support p.supports (x.0 - 1)) (pair_at cell (x.0 - 1)).0 (pair_at cell (x.0 - 1)).1 x.1 (λ f. yes (l, f)) (λ n. no (λ f. n f.1))
 ]
 
 pub pair_place : (Q : List Point → ℕ → ℕ → Type 0) (supports : List (List Point)) (cell : Cell) → EachPair supports cell (λ s a b. (c : ℕ) → IsFurther s a b c → Q s a c)
-    → (j c : ℕ) → IsFurther (support_at supports j) (pair_at cell j).0 (pair_at cell j).1 c → Q (support_at supports j) (pair_at cell j).0 c
+    → (j c : ℕ) → IsFurther (nth_support supports j) (pair_at cell j).0 (pair_at cell j).1 c → Q (nth_support supports j) (pair_at cell j).0 c
 pair_place Q [] cell e j c f = absurd (let a = f.0 in let b = f.1 in omega (arith, a, b))
 pair_place Q (s ∷ supports) [] e j c f = absurd e
 pair_place Q (s ∷ supports) (x ∷ cell) e zero c f = e.0 c f
 pair_place Q (s ∷ supports) (x ∷ cell) e (suc j) c f = pair_place Q supports cell e.1 j c f
 
 pub place_pair : (Q P : List Point → ℕ → ℕ → Type 0) (supports : List (List Point)) (cell : Cell) → EachPair supports cell P
-    → ((j c : ℕ) → IsFurther (support_at supports j) (pair_at cell j).0 (pair_at cell j).1 c → Q (support_at supports j) (pair_at cell j).0 c)
+    → ((j c : ℕ) → IsFurther (nth_support supports j) (pair_at cell j).0 (pair_at cell j).1 c → Q (nth_support supports j) (pair_at cell j).0 c)
     → EachPair supports cell (λ s a b. (c : ℕ) → IsFurther s a b c → Q s a c)
 place_pair Q P [] [] e f = tt
 place_pair Q P [] (x ∷ cell) e f = e
 place_pair Q P (s ∷ supports) [] e f = e
 place_pair Q P (s ∷ supports) (x ∷ cell) e f = ((λ c h. f 0 c h), place_pair Q P supports cell e.1 (λ j c h. f (suc j) c h))
 
-not_zero_number : (q : ℤ) → pos 0 <ℤ q → ¬ (q ≡ pos 0)
-not_zero_number q p e = omega (arith, ints, p, e)
-
 -- ---- the lines of one cell
 module _ (p : Problem) (cell : Cell) (well : IsProblem p) (of : IsOf p cell) (ind : IsIndependent p cell) where
-  abbrev pub exact : (j c : ℕ) → ExactLine p cell (point_at (support_at p.supports j) (pair_at cell j).0) (point_at (support_at p.supports j) c)
-  exact j c = exact_line p cell (point_at (support_at p.supports j) (pair_at cell j).0) (point_at (support_at p.supports j) c) well of ind
+  abbrev pub exact : (j c : ℕ) → ExactLine p cell (point_at (nth_support p.supports j) (pair_at cell j).0) (point_at (nth_support p.supports j) c)
+  exact j c = exact_line p cell (point_at (nth_support p.supports j) (pair_at cell j).0) (point_at (nth_support p.supports j) c) well of ind
 
   abbrev pub line : Spot → Line
   line x = (exact (x.0 - 1) x.1).line
@@ -76,14 +74,14 @@ module _ (p : Problem) (cell : Cell) (well : IsProblem p) (of : IsOf p cell) (in
 
   told : (j c : ℕ) → Spanned (λ t. Told t j c)
   told j c =
-      further_cases (support_at p.supports j) (pair_at cell j).0 (pair_at cell j).1 c
+      further_cases (nth_support p.supports j) (pair_at cell j).0 (pair_at cell j).1 c
       (λ f. record { list = (exact j c).line ∷ []; to = λ t h. (h f, tt); from = λ t h g. h.0 })
       (λ n. spanned_always (λ t. Told t j c) (λ t g. absurd (n g)))
 
   span_tells : (t : Time) → InSpan p cell t → (j c : ℕ) → Told t j c
   span_tells t h j c f =
       let l = exact j c in
-      either_in_proportion (gap t h.0 (point_at (support_at p.supports j) (pair_at cell j).0) (point_at (support_at p.supports j) c)) (line_at l.line t) l.g h.0.over l.positive h.0.positive
+      either_in_proportion (gap t h.0 (point_at (nth_support p.supports j) (pair_at cell j).0) (point_at (nth_support p.supports j) c)) (line_at l.line t) l.g h.0.over l.positive h.0.positive
       (λ e. sym (l.is t h.0 h.1 e))
       (pair_place (λ s a c. IsAbove t h.0 s a c ⊎ IsLevel t h.0 s a c) p.supports cell h.2 j c f)
 
@@ -94,7 +92,7 @@ module _ (p : Problem) (cell : Cell) (well : IsProblem p) (of : IsOf p cell) (in
         v.1,
         place_pair (λ s a c. IsAbove t v.0 s a c ⊎ IsLevel t v.0 s a c) _ p.supports cell of (λ j c f.
             let l = exact j c in
-            either_in_proportion (line_at l.line t) (gap t v.0 (point_at (support_at p.supports j) (pair_at cell j).0) (point_at (support_at p.supports j) c)) v.0.over l.g v.0.positive l.positive
+            either_in_proportion (line_at l.line t) (gap t v.0 (point_at (nth_support p.supports j) (pair_at cell j).0) (point_at (nth_support p.supports j) c)) v.0.over l.g v.0.positive l.positive
             (l.is t v.0 v.1) (h j c f)),
       )
 
@@ -110,20 +108,20 @@ module _ (p : Problem) (cell : Cell) (well : IsProblem p) (of : IsOf p cell) (in
   level_to t x h =
       let v = a_normal p cell well of ind t in
       let l = exact (x.0 - 1) x.1 in
-      zero_in_proportion (gap t v.0 (point_at (support_at p.supports (x.0 - 1)) (pair_at cell (x.0 - 1)).0) (point_at (support_at p.supports (x.0 - 1)) x.1)) (line_at l.line t) l.g v.0.over
-      (not_zero_number v.0.over v.0.positive) (λ e. sym (l.is t v.0 v.1 e)) (h.1 v.0 v.1)
+      zero_in_proportion (gap t v.0 (point_at (nth_support p.supports (x.0 - 1)) (pair_at cell (x.0 - 1)).0) (point_at (nth_support p.supports (x.0 - 1)) x.1)) (line_at l.line t) l.g v.0.over
+      (not_zero_over v.0.over v.0.positive) (λ e. sym (l.is t v.0 v.1 e)) (h.1 v.0 v.1)
 
   pub level_from : (t : Time) (x : Spot) → IsFurtherSpot p cell x → IsZero (line_at (line x) t) → IsLevelThen p cell t x
   level_from t x f z = (
     f,
     λ v n.
         let l = exact (x.0 - 1) x.1 in
-        zero_in_proportion (line_at l.line t) (gap t v (point_at (support_at p.supports (x.0 - 1)) (pair_at cell (x.0 - 1)).0) (point_at (support_at p.supports (x.0 - 1)) x.1)) v.over l.g
-        (not_zero_number l.g l.positive) (l.is t v n) z,
+        zero_in_proportion (line_at l.line t) (gap t v (point_at (nth_support p.supports (x.0 - 1)) (pair_at cell (x.0 - 1)).0) (point_at (nth_support p.supports (x.0 - 1)) x.1)) v.over l.g
+        (not_zero_over l.g l.positive) (l.is t v n) z,
   )
 
   level_same : (t u : Time) → Same t u → (x : Spot) → IsLevelThen p cell t x → IsLevelThen p cell u x
-  level_same t u s x h = level_from u x h.0 (zero_still (line x) t u s (level_to t x h))
+  level_same t u s x h = level_from u x h.0 (zero_there (line x) t u s (level_to t x h))
 
   pub dec_level : (t : Time) (x : Spot) → Dec (IsLevelThen p cell t x)
   dec_level t x = elim (dec_further p cell x) [
@@ -234,14 +232,14 @@ module _ (p : Problem) (cell : Cell) (well : IsProblem p) (of : IsOf p cell) (in
   always_first = first_spot (IsAlwaysLevel p cell) dec_always (suc (length p.supports)) (suc (points_in p.supports)) (λ x h. spot_bound p cell x h.0)
 
   -- a further point that is level at one normal is so at any
-  pub level_at_any : (t : Time) (v : Normal) (i c : ℕ) → IsNormal p cell t v → IsFurtherAt p cell i c → IsLevel t v (support_at p.supports i) (pair_at cell i).0 c → IsLevelThen p cell t (suc i, c)
+  pub level_at_any : (t : Time) (v : Normal) (i c : ℕ) → IsNormal p cell t v → IsFurtherAt p cell i c → IsLevel t v (nth_support p.supports i) (pair_at cell i).0 c → IsLevelThen p cell t (suc i, c)
   level_at_any t v i c n f z =
       let e : i ≡ suc i - 1 = omega arith in
-      let k = subst (λ j. IsFurtherAt p cell j c × IsLevel t v (support_at p.supports j) (pair_at cell j).0 c) e (f, z) in
+      let k = subst (λ j. IsFurtherAt p cell j c × IsLevel t v (nth_support p.supports j) (pair_at cell j).0 c) e (f, z) in
       let l = exact (suc i - 1) c in
       level_from t (suc i, c) (omega arith, k.0)
-      (zero_in_proportion (gap t v (point_at (support_at p.supports (suc i - 1)) (pair_at cell (suc i - 1)).0) (point_at (support_at p.supports (suc i - 1)) c)) (line_at l.line t) l.g v.over
-      (not_zero_number v.over v.positive) (λ e. sym (l.is t v n e)) k.1)
+      (zero_in_proportion (gap t v (point_at (nth_support p.supports (suc i - 1)) (pair_at cell (suc i - 1)).0) (point_at (nth_support p.supports (suc i - 1)) c)) (line_at l.line t) l.g v.over
+      (not_zero_over v.over v.positive) (λ e. sym (l.is t v n e)) k.1)
 
   named_from : (t : Time) (v : Normal) → IsTie p cell t v → Named
   named_from t v h =

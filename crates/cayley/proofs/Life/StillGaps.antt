@@ -16,7 +16,7 @@ scaled t u v x y r s e = ap (λ k. u.over *ℤ k) (still_gap t v x y e r s) ∙ 
     turn : (a b c : ℤ) → a *ℤ (b *ℤ c) ≡ b *ℤ (a *ℤ c)
     turn a b c = rw (as_D a, as_D b, as_D c) (simp Ds (same_D _ _ _ _ (omega arith)))
 
-not_zero_over : (q : ℤ) → pos 0 <ℤ q → ¬ (q ≡ pos 0)
+pub not_zero_over : (q : ℤ) → pos 0 <ℤ q → ¬ (q ≡ pos 0)
 not_zero_over q p e = omega (arith, ints, p, e)
 
 pub gap_zero : (t u : Time) (v : Normal) (x y : Point) → x.speed ≡ pos 0 → y.speed ≡ pos 0 → IsZero (gap t v x y) → IsZero (gap u v x y)

@@ -7,7 +7,8 @@ use borrow.Author.Differences.{up, down}
 use native.Mathlib.Decide.{ℕ_discrete, dec_le}
 use Rattle.wide_int.proofs.Ring.{as_D, Ds, same_D, D-pos, neg_mul_ℤ}
 use Rattle.wide_int.proofs.Order.{mul_le_ℤ}
-use Rattle.int_vectors.specs.Vectors.{IsZero, IsPositive, dot, at, add, sub, scale}
+use Rattle.int_vectors.specs.Vectors.{IsZero, IsPositive, dot, at, add, sub, scale, entries_at}
+use Rattle.int_vectors.proofs.Entries.{at-scale, at-add, zero_from}
 use Rattle.cayley.specs.Times.{Time, time_zero, IsBefore}
 use Rattle.cayley.specs.Problems.{Point, Problem, point_at, file_points}
 use Rattle.cayley.specs.Cells.{Cell, EachPair, IsOf, IsIndependent, IsFurther}
@@ -15,10 +16,7 @@ use Rattle.cayley.specs.Normals.{Normal, mark, height, gap, IsNormal, AllAbove}
 use Rattle.cayley.specs.Mixed.{IsAlive}
 use Rattle.cayley.specs.Lives.{AliveLate}
 use Rattle.cayley.specs.LifeLaws.{TargetLaw}
-use Rattle.cayley.proofs.Algebra.Kernel.{length-map}
-use Rattle.cayley.proofs.Algebra.ScaledInverse.{at-add, at-scale}
-use Rattle.cayley.proofs.Algebra.RowDependencies.{zero-at}
-use Rattle.cayley.proofs.Algebra.RowNormals.{entry, at-zero}
+use Rattle.cayley.proofs.Algebra.RowNormals.{at-zero}
 use Rattle.cayley.proofs.Order.Lexicographic.{positive-same, positive-scale}
 use Rattle.cayley.proofs.Order.Lines.{before_trans}
 use Rattle.cayley.proofs.Order.Lined.{further_cases}
@@ -27,6 +25,7 @@ use Rattle.cayley.proofs.OneCell.CellLines.{base_of, height-at}
 use Rattle.cayley.proofs.OneCell.RaisedRanks.{resting_value, still_gap, spread, spread_normal, positive_spread, zero_spread}
 use Rattle.cayley.proofs.OneCell.FilePointRanks.{Alike, Alikes, file_points_alike}
 use Rattle.cayley.proofs.Life.Exits.{later_both}
+use Rattle.cayley.proofs.Algebra.Dependence.{length-map}
 
 -- ---- at all late times
 record LateOn (P : Time → Type 0) : Type 0 where
@@ -65,7 +64,7 @@ late_pairs [] (pair ∷ cell) P e = absurd e
 late_pairs (s ∷ supports) [] P e = absurd e
 late_pairs (s ∷ supports) (pair ∷ cell) P e = late_both (λ x. P x s pair.0 pair.1) (λ x. EachPair supports cell (P x)) e.0 (late_pairs supports cell P e.1)
 
-pair_both : (supports : List (List Point)) (cell : Cell) (P Q R : List Point → ℕ → ℕ → Type 0)
+pub pair_both : (supports : List (List Point)) (cell : Cell) (P Q R : List Point → ℕ → ℕ → Type 0)
     → ((s : List Point) (a b : ℕ) → P s a b → Q s a b → R s a b) → EachPair supports cell P → EachPair supports cell Q → EachPair supports cell R
 pair_both [] [] P Q R h d e = tt
 pair_both [] (pair ∷ cell) P Q R h d e = e
@@ -73,7 +72,7 @@ pair_both (s ∷ supports) [] P Q R h d e = e
 pair_both (s ∷ supports) (pair ∷ cell) P Q R h d e = (h s pair.0 pair.1 d.0 e.0, pair_both supports cell P Q R h d.1 e.1)
 
 -- ---- a corner is above at late times
-positive_first : (u : List ℤ) → pos 0 <ℤ at u 0 → IsPositive u
+pub positive_first : (u : List ℤ) → pos 0 <ℤ at u 0 → IsPositive u
 positive_first [] p = absurd (omega (arith, ints))
 positive_first (x ∷ u) p = inl p
 
@@ -82,21 +81,21 @@ first_not_negative [] p = absurd p
 first_not_negative (x ∷ u) (inl p) = omega (arith, ints, p)
 first_not_negative (x ∷ u) (inr p) = let e = p.0 in omega (arith, ints, e)
 
-mark-nothing : (q : ℤ) (r : ℕ) → at (mark q r) 0 ≡ pos 0
+pub mark-nothing : (q : ℤ) (r : ℕ) → at (mark q r) 0 ≡ pos 0
 mark-nothing q zero = refl
 mark-nothing q (suc r) = refl
 
-height-first : (t : Time) (p : Point) → at (height t p) 0 ≡ t.over *ℤ p.base +ℤ p.speed *ℤ at t.entries 0
+pub height-first : (t : Time) (p : Point) → at (height t p) 0 ≡ t.over *ℤ p.base +ℤ p.speed *ℤ at t.entries 0
 unfolding base_of
 height-first t p = height-at t p 0 ∙ ap (λ x. t.over *ℤ x +ℤ p.speed *ℤ at t.entries 0) (at-add (p.base ∷ []) (mark (pos 1) p.rank) 0 ∙ ap (λ x. p.base +ℤ x) (mark-nothing (pos 1) p.rank) ∙ nothing p.base)
   where
     nothing : (x : ℤ) → x +ℤ pos 0 ≡ x
     nothing x = omega (arith, ints)
 
-potential-first : (t : Time) (v : Normal) (p : Point)
-    → potential t v p 0 ≡ t.over *ℤ dot p.coordinates (entry 0 v.entries) +ℤ v.over *ℤ (t.over *ℤ p.base +ℤ p.speed *ℤ at t.entries 0)
+pub potential-first : (t : Time) (v : Normal) (p : Point)
+    → potential t v p 0 ≡ t.over *ℤ dot p.coordinates (entries_at 0 v.entries) +ℤ v.over *ℤ (t.over *ℤ p.base +ℤ p.speed *ℤ at t.entries 0)
 unfolding potential
-potential-first t v p = ap (λ x. t.over *ℤ dot p.coordinates (entry 0 v.entries) +ℤ v.over *ℤ x) (height-first t p)
+potential-first t v p = ap (λ x. t.over *ℤ dot p.coordinates (entries_at 0 v.entries) +ℤ v.over *ℤ x) (height-first t p)
 
 -- the time of a whole number
 unfoldable whole_time : ℤ → Time
@@ -116,7 +115,7 @@ after_whole k x b =
 
 corner_late : (v : Normal) (p q : Point) → p.speed ≡ pos 0 → q.speed ≡ pos 1 → LateOn (λ t. IsPositive (gap t v p q))
 corner_late v p q sp sq =
-    let w = entry 0 v.entries in
+    let w = entries_at 0 v.entries in
     let x = dot p.coordinates w in
     let y = dot q.coordinates w in
     let k = (y +ℤ v.over *ℤ q.base) -ℤ (x +ℤ v.over *ℤ p.base) in
@@ -165,13 +164,13 @@ alike_from gs (s ∷ supports) (u ∷ us) [] P Q R h w e d = e
 alike_from gs (s ∷ supports) (u ∷ us) (x ∷ cell) P Q R h w e d = (h s u x.0 x.1 w.0 e.0 d.0, alike_from gs supports us cell P Q R h w.1 e.1 d.1)
 
 -- ---- points of speed 0: a gap doesn't change over time
-still_zero : (t : Time) (v : Normal) (p q : Point) → p.speed ≡ pos 0 → q.speed ≡ pos 0 → IsZero (gap time_zero v p q) → IsZero (gap t v p q)
-still_zero t v p q sp sq z = zero-at _ (λ e. still_gap t v p q e sp sq ∙ ap (λ x. t.over *ℤ x) (level e) ∙ *ℤ-zero t.over)
+pub still_zero : (t : Time) (v : Normal) (p q : Point) → p.speed ≡ pos 0 → q.speed ≡ pos 0 → IsZero (gap time_zero v p q) → IsZero (gap t v p q)
+still_zero t v p q sp sq z = zero_from _ (λ e. still_gap t v p q e sp sq ∙ ap (λ x. t.over *ℤ x) (level e) ∙ *ℤ-zero t.over)
   where
     level : (e : ℕ) → resting_value v q e -ℤ resting_value v p e ≡ pos 0
     level e = let a = still_gap time_zero v p q e sp sq in let b = at-zero (gap time_zero v p q) e z in omega (arith, ints, a, b)
 
-still_positive : (t : Time) (v : Normal) (p q : Point) → p.speed ≡ pos 0 → q.speed ≡ pos 0 → IsPositive (gap time_zero v p q) → IsPositive (gap t v p q)
+pub still_positive : (t : Time) (v : Normal) (p q : Point) → p.speed ≡ pos 0 → q.speed ≡ pos 0 → IsPositive (gap time_zero v p q) → IsPositive (gap t v p q)
 still_positive t v p q sp sq h = positive-same (scale t.over (gap time_zero v p q)) _ same (positive-scale t.over (gap time_zero v p q) t.positive h)
   where
     first : (e : ℕ) → at (gap time_zero v p q) e ≡ resting_value v q e -ℤ resting_value v p e

@@ -1,12 +1,10 @@
 -- without a tie exactly one further point is level where a cell begins or ends, and at no other time
-use Rattle.std.proofs.Common.{◌⊎◌, ℕ, suc, List, [], ◌∷◌, sym, inl, inr}
+use Rattle.std.proofs.Common.{ℕ, suc, List, [], ◌∷◌, sym, inl, inr}
 use native.Mathlib.Decide.{ℕ_discrete}
-use Rattle.cayley.proofs.Order.Lexicographic.{not_zero}
-use Rattle.cayley.proofs.Order.Lines.{Line, line_at}
-use Rattle.cayley.proofs.Life.Walls.{SomeFurther, TellsAbove}
+use Rattle.cayley.proofs.Life.Walls.{SomeFurther}
 use Rattle.cayley.proofs.Life.Decisions.{alive_after, alive_before}
 use Rattle.cayley.proofs.Life.Levels.{begins_level, ends_level, after_none_below, before_none_below}
-use Rattle.int_vectors.specs.Vectors.{IsZero, IsPositive}
+use Rattle.int_vectors.specs.Vectors.{IsZero}
 use Rattle.cayley.specs.Times.{Time}
 use Rattle.cayley.specs.Problems.{Point, Problem, point_at, IsProblem}
 use Rattle.cayley.specs.Normals.{Normal, gap, IsNormal, NoneBelow}
@@ -14,10 +12,10 @@ use Rattle.cayley.specs.Cells.{Cell, IsOf, IsIndependent, IsFurther}
 use Rattle.cayley.specs.Lives.{BeginsAt, EndsAt}
 use Rattle.cayley.specs.Flips.{OneLevel}
 use Rattle.cayley.specs.Ties.{IsUntied}
-use Rattle.cayley.specs.Dependencies.{support_at, pair_at}
+use Rattle.cayley.specs.Dependencies.{pair_at, nth_support}
 
 place_level : (supports : List (List Point)) (cell : Cell) (t : Time) (v : Normal) → SomeFurther supports cell (λ a c. IsZero (gap t v a c))
-    → (i : ℕ) × (c : ℕ) × (IsFurther (support_at supports i) (pair_at cell i).0 (pair_at cell i).1 c × IsZero (gap t v (point_at (support_at supports i) (pair_at cell i).0) (point_at (support_at supports i) c)))
+    → (i : ℕ) × (c : ℕ) × (IsFurther (nth_support supports i) (pair_at cell i).0 (pair_at cell i).1 c × IsZero (gap t v (point_at (nth_support supports i) (pair_at cell i).0) (point_at (nth_support supports i) c)))
 place_level [] cell t v h = absurd h
 place_level (s ∷ supports) [] t v h = absurd h
 place_level (s ∷ supports) (x ∷ cell) t v (inl h) = (0, h.0, (h.1, h.2))
@@ -54,8 +52,3 @@ pub ends_one_level : (p : Problem) (cell : Cell) → IsProblem p → (t : Time) 
 ends_one_level p cell well t free v h n =
     let a = alive_before p cell t h.0 in
     one_level_by p cell t v free a.1.0 a.1.1 n (before_none_below p cell well t v h.0 n) (ends_level p cell well t v h n)
-
--- with none below a wall line that is zero tells a level point
-pub level_by_line : (p : Problem) (cell : Cell) (a c : Point) (l : Line) → TellsAbove p cell a c l → (t : Time) (v : Normal) → IsNormal p cell t v → IsPositive (gap t v a c) ⊎ IsZero (gap t v a c) → IsZero (line_at l t) → IsZero (gap t v a c)
-level_by_line p cell a c l tells t v n (inl g) z = absurd (not_zero (line_at l t) ((tells t v n).1 g) z)
-level_by_line p cell a c l tells t v n (inr g) z = g

@@ -4,7 +4,7 @@ use Rattle.std.proofs.Common.{ℕ, zero, suc, List, [], ◌∷◌}
 use Rattle.int_vectors.specs.Vectors.{Each}
 use Rattle.cayley.specs.Problems.{Point, origin}
 use Rattle.cayley.specs.Cells.{Cell, EachPair}
-use Rattle.cayley.specs.Dependencies.{support_at}
+use Rattle.cayley.specs.Dependencies.{nth_support}
 
 -- it holds at every position, if also of what stands past the end
 pub known_at : (R : Point → Type 0) → R origin → (s : List Point) (k : ℕ) → Each s R → R (slice_index_or s k origin)
@@ -12,7 +12,7 @@ known_at R o [] k e = o
 known_at R o (x ∷ s) zero e = e.0
 known_at R o (x ∷ s) (suc k) e = known_at R o s k e.1
 
-pub known_support : (R : Point → Type 0) (supports : List (List Point)) (j : ℕ) → Each supports (λ s. Each s R) → Each (support_at supports j) R
+pub known_support : (R : Point → Type 0) (supports : List (List Point)) (j : ℕ) → Each supports (λ s. Each s R) → Each (nth_support supports j) R
 known_support R [] j e = tt
 known_support R (s ∷ supports) zero e = e.0
 known_support R (s ∷ supports) (suc j) e = known_support R supports j e.1

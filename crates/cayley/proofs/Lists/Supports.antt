@@ -55,7 +55,7 @@ few_points p v k d q = by v.shape.corners
     by (inr h) = let e = each_support_at _ 1 p.files p.supports h k 0 d q in let n = v.shape.dimension in omega (arith, few)
 
 -- a coordinate within its limits is within those of a corner
-wider : (z : ℤ) → IsCoordinate z → IsCornerCoordinate z
+pub wider : (z : ℤ) → IsCoordinate z → IsCornerCoordinate z
 wider z h = omega arith
 
 small_support : (f : ℕ) (s : List Point) → Each (take f s) IsWithinProblem × Each (drop f s) IsWithinCorners → Each s (λ (x : Point). Each x.coordinates IsCornerCoordinate)

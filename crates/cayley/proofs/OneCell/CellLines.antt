@@ -6,17 +6,19 @@ use Rattle.wide_int.proofs.Ring.{as_D, Ds, same_D, D-pos}
 use Rattle.int_vectors.proofs.Weighing.{weigh-lin}
 use Rattle.cayley.proofs.Order.Proportion.{in_proportion}
 use Rattle.cayley.proofs.Algebra.Kernel.{Independent, weigh_map}
-use Rattle.cayley.proofs.Algebra.ScaledInverse.{inverse, apply, at-add, at-scale, at-comb}
+use Rattle.cayley.proofs.Algebra.ScaledInverse.{inverse, apply, at-comb}
 use Rattle.cayley.proofs.Algebra.RowDependencies.{IsDependency}
 use Rattle.cayley.proofs.Order.Lexicographic.{minus_one}
 use Rattle.cayley.proofs.Algebra.RowNormals.{weigh-swap, weigh-factor, square_pos, sum_is_gap}
 use Rattle.cayley.proofs.Order.Lines.{Line, line_at}
-use Rattle.cayley.proofs.OneCell.CellNormals.{edges, rises, length-rises, normal_from, rows_independent, long_rows}
+use Rattle.cayley.proofs.OneCell.CellNormals.{rises, length-rises, normal_from, rows_independent, long_rows}
 use Rattle.int_vectors.specs.Vectors.{IsPositive, weigh, scale, dot, at, add, sub, comb, at_place}
+use Rattle.int_vectors.proofs.Entries.{at-scale, at-add}
 use Rattle.cayley.specs.Times.{Time}
 use Rattle.cayley.specs.Problems.{Point, Problem, point_at, IsProblem}
 use Rattle.cayley.specs.Normals.{Normal, height, gap, mark, IsNormal}
 use Rattle.cayley.specs.Cells.{Cell, IsOf, IsIndependent}
+use Rattle.cayley.specs.Rows.{edges}
 
 pub record ADependency (n : ℕ) (rows : List (List ℤ)) (d : List ℤ) : Type 0 where
   pub bs : List ℤ

@@ -3,17 +3,14 @@ use Rattle.std.specs.Prelude.{slice_index_or}
 use Rattle.std.proofs.Common.{◌≡◌, ℕ, zero, suc, ◌-◌, ◌<◌, ◌≤◌, List, [], ◌∷◌, length, arith, refl, sym, ap, ◌∙◌}
 use Rattle.std.proofs.Math.IntN.{ℤ, pos, neg_ℤ}
 use Rattle.cayley.proofs.Algebra.Kernel.{Kills, Independent}
-use Rattle.cayley.proofs.Algebra.RowNormals.{IsNormalFor, normal_exists, normal_unique, entry}
-use Rattle.int_vectors.specs.Vectors.{IsZero, scale, Each, dot, add, sub}
+use Rattle.cayley.proofs.Algebra.RowNormals.{IsNormalFor, normal_exists, normal_unique}
+use Rattle.int_vectors.specs.Vectors.{IsZero, scale, Each, dot, add, sub, entries_at}
+use Rattle.int_vectors.proofs.Entries.{length-scale}
 use Rattle.cayley.specs.Problems.{Point, origin, Problem, point_at, IsProblem}
 use Rattle.cayley.specs.Times.{Time}
 use Rattle.cayley.specs.Normals.{Normal, height, gap, IsNormal}
 use Rattle.cayley.specs.Cells.{Cell, EachPair, IsOf, IsIndependent}
-
-abbrev pub edges : List (List Point) → Cell → List (List ℤ)
-edges [] cell = []
-edges (s ∷ supports) [] = []
-edges (s ∷ supports) (pair ∷ cell) = sub (point_at s pair.1).coordinates (point_at s pair.0).coordinates ∷ edges supports cell
+use Rattle.cayley.specs.Rows.{edges}
 
 abbrev pub rises : Time → List (List Point) → Cell → List (List ℤ)
 rises t [] cell = []
@@ -25,15 +22,11 @@ length-rises t [] cell = refl
 length-rises t (s ∷ supports) [] = refl
 length-rises t (s ∷ supports) (pair ∷ cell) = ap suc (length-rises t supports cell)
 
-length-edges : (supports : List (List Point)) (cell : Cell) (P : List Point → ℕ → ℕ → Type 0) → EachPair supports cell P → length (edges supports cell) ≡ length supports
+pub length-edges : (supports : List (List Point)) (cell : Cell) (P : List Point → ℕ → ℕ → Type 0) → EachPair supports cell P → length (edges supports cell) ≡ length supports
 length-edges [] [] P e = refl
 length-edges [] (pair ∷ cell) P e = absurd e
 length-edges (s ∷ supports) [] P e = absurd e
 length-edges (s ∷ supports) (pair ∷ cell) P e = ap suc (length-edges supports cell P e.1)
-
-pub length-scale : (k : ℤ) (cs : List ℤ) → length (scale k cs) ≡ length cs
-length-scale k [] = refl
-length-scale k (c ∷ cs) = ap suc (length-scale k cs)
 
 pub same_long : (a b : List ℤ) (n : ℕ) → length a ≡ n → length b ≡ n → length (add a b) ≡ n
 same_long [] b n p q = q
@@ -98,7 +91,7 @@ module _ (p : Problem) (cell : Cell) (well : IsProblem p) (of : IsOf p cell) (in
       (v, (n.long, normal_to t p.supports cell v _ of n.is))
 
   -- no other
-  pub one_normal : (t : Time) (v w : Normal) → IsNormal p cell t v → IsNormal p cell t w → (e : ℕ) → IsZero (add (scale w.over (entry e v.entries)) (scale (neg_ℤ v.over) (entry e w.entries)))
+  pub one_normal : (t : Time) (v w : Normal) → IsNormal p cell t v → IsNormal p cell t w → (e : ℕ) → IsZero (add (scale w.over (entries_at e v.entries)) (scale (neg_ℤ v.over) (entries_at e w.entries)))
   one_normal t v w iv iw e =
       let r = edges p.supports cell in
       let h = rises t p.supports cell in

@@ -5,7 +5,6 @@ use Rattle.std.proofs.Math.IntN.{ℤ, pos, ◌+ℤ◌, ◌-ℤ◌, ◌*ℤ◌, n
 use Rattle.wide_int.proofs.Ring.{as_D, Ds, same_D}
 use Rattle.int_vectors.proofs.Weighing.{weigh-append}
 use Rattle.cayley.proofs.Algebra.Kernel.{places, weigh-at}
-use Rattle.cayley.proofs.OneCell.CellNormals.{edges}
 use Rattle.cayley.proofs.Flipping.Neighbours.{edges-append, dot-sub}
 use Rattle.cayley.proofs.Flipping.Exchange.{Circuit, circuit_of}
 use Rattle.int_vectors.specs.Vectors.{weigh, dot, at, sub}
@@ -13,6 +12,7 @@ use Rattle.cayley.specs.Problems.{Point, point_at}
 use Rattle.cayley.specs.Cells.{Cell}
 use Rattle.cayley.specs.Dependencies.{Numbers, SumsAreZero, total, IsDependencyWith, number_at}
 use Rattle.cayley.proofs.Flipping.Spots.{Spot, problem_of, with_pair}
+use Rattle.cayley.specs.Rows.{edges}
 
 -- a sum of numbers is linear in what they weigh
 pub total-lin : (ms : List (ℤ × ℤ)) (supports : List (List Point)) (cell : Cell) (a : ℤ) (f g : Point → ℤ) → total ms supports cell (λ q. a *ℤ f q +ℤ g q) ≡ a *ℤ total ms supports cell f +ℤ total ms supports cell g

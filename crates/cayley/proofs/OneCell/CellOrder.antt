@@ -1,12 +1,12 @@
 -- the order of cells, as the comparison of slices computes it
-use Rattle.std.proofs.Common.{◌≡◌, ℕ, ◌<◌, ◌↔◌, List, [], ◌∷◌, refl, sym, ◌∙◌, ap, inl, inr, subst}
-use Rattle.std.proofs.lemmas.Bool.{cases_order}
+use Rattle.std.proofs.Common.{◌≡◌, ℕ, ◌↔◌, List, [], ◌∷◌, refl, sym, ◌∙◌, ap, inl, inr, subst}
 use Rattle.std.specs.Cmp.{nat_cmp_is}
 use Rattle.std.specs.Ordering.{nat_cmp, ordering_then}
 use Rattle.std.specs.declared.cmp.Ordering.{Ordering}
 use Rattle.std.specs.declared.cmp.Ordering.TheVariants.{Less, Equal, Greater}
 use Rattle.std.specs.Cmp.Lexicographic.{slice_cmp}
 use Rattle.cayley.specs.Cells.{IsLess}
+use Rattle.cayley.proofs.Searching.Listing.{three_ways}
 
 abbrev pub pair_cmp : ℕ × ℕ → ℕ × ℕ → Ordering
 pair_cmp x y = ordering_then (nat_cmp x.0 y.0) (nat_cmp x.1 y.1)
@@ -37,17 +37,14 @@ pub equal-cmp : (xs : List (ℕ × ℕ)) → slice_cmp pair_cmp xs xs ≡ Equal
 equal-cmp [] = refl
 equal-cmp (x ∷ xs) = second x.0 x.0 x.1 x.1 _ Equal refl (nat_cmp_is x.1 x.1 Equal refl) ∙ equal-cmp xs
 
-less_or : {P : Type 0} (a b : ℕ) → (a < b → P) → (a ≡ b → P) → (b < a → P) → P
-less_or a b f g h = elim (cases_order a b) [ inl e ↦ g e | inr (inl p) ↦ f p | inr (inr p) ↦ h p ]
-
 -- two cells are equal, or one is less
 pub three : {P : Type 0} (xs ys : List (ℕ × ℕ)) → (IsLess xs ys → P) → (xs ≡ ys → P) → (IsLess ys xs → P) → P
 three [] [] f g h = g refl
 three [] (y ∷ ys) f g h = f tt
 three (x ∷ xs) [] f g h = h tt
 three (x ∷ xs) (y ∷ ys) f g h =
-    less_or x.0 y.0 (λ p. f (inl p))
-    (λ e. less_or x.1 y.1 (λ p. f (inr (e, inl p)))
+    three_ways x.0 y.0 (λ p. f (inl p))
+    (λ e. three_ways x.1 y.1 (λ p. f (inr (e, inl p)))
     (λ e'. three xs ys (λ p. f (inr (e, inr (e', p)))) (λ q. g (λ i. (e i, e' i) ∷ q i)) (λ p. h (inr (sym e, inr (sym e', p)))))
     (λ p. h (inr (sym e, inl p))))
     (λ p. h (inl p))

@@ -5,6 +5,7 @@ use Rattle.std.proofs.lemmas.List.{length-set, length-replicate}
 use Rattle.std.proofs.lemmas.Int.{ints}
 use Rattle.std.proofs.Math.IntN.{ℤ, pos, ◌+ℤ◌, ◌-ℤ◌, ◌*ℤ◌, neg_ℤ}
 use Rattle.int_vectors.specs.Vectors.{Each, add, sub, scale, dot, IsOrthogonal, Independent}
+use Rattle.int_vectors.proofs.Entries.{length-scale}
 use Rattle.cayley.specs.Problems.{Point, Problem, IsProblem, origin, point_at}
 use Rattle.cayley.specs.Cells.{Cell, EachPair, IsOf, IsIndependent}
 use Rattle.cayley.specs.Rows.{unit_row, edge_rows_from, edge_rows}
@@ -26,10 +27,6 @@ dot-append [] ys [] ws e = omega (arith, ints)
 dot-append [] ys (z ∷ zs) ws e = absurd (omega arith)
 dot-append (x ∷ xs) ys [] ws e = absurd (omega arith)
 dot-append (x ∷ xs) ys (z ∷ zs) ws e = rw (dot-append xs ys zs ws (omega arith)) (omega (arith, ints))
-
-length-scale : (k : ℤ) (xs : List ℤ) → length (scale k xs) ≡ length xs
-length-scale k [] = refl
-length-scale k (x ∷ xs) = ap suc (length-scale k xs)
 
 pub long_sub : (n : ℕ) (xs ys : List ℤ) → length xs ≡ n → length ys ≡ n → length (sub xs ys) ≡ n
 long_sub n xs ys p q = sums n xs (scale (neg_ℤ (pos 1)) ys) p (length-scale (neg_ℤ (pos 1)) ys ∙ q)
@@ -115,15 +112,12 @@ module _ (n : ℕ) where
 pub rows_independent : (p : Problem) (cell : Cell) → IsProblem p → IsOf p cell → Independent p.dimension (edge_rows p cell) → IsIndependent p cell
 rows_independent p cell well of ind v l e = ind v l (rows_from_pairs p.dimension 0 p.supports cell v l well.points of e)
 
-pub independent_rows : (p : Problem) (cell : Cell) → IsProblem p → IsOf p cell → IsIndependent p cell → Independent p.dimension (edge_rows p cell)
-independent_rows p cell well of ind v l e = ind v l (pairs_from_rows p.dimension 0 p.supports cell v l well.points of e)
-
 pub length-rows : (n i : ℕ) (supports : List (List Point)) (cell : Cell) (P : List Point → ℕ → ℕ → Type 0) → EachPair supports cell P → length (edge_rows_from n i supports cell) ≡ length supports
 length-rows n i [] cell P e = refl
 length-rows n i (s ∷ supports) [] P e = absurd e
 length-rows n i (s ∷ supports) (x ∷ cell) P e = ap suc (length-rows n (suc i) supports cell P e.1)
 
-length-unit_row : (n i : ℕ) → length (unit_row n i) ≡ n
+pub length-unit_row : (n i : ℕ) → length (unit_row n i) ≡ n
 length-unit_row n i = simp (length-set, length-replicate) refl
 
 rows_long : (n i : ℕ) (supports : List (List Point)) (cell : Cell) → HaveLength n supports → EachPair supports cell InRange → Each (edge_rows_from n i supports cell) (λ row. length row ≡ n + suc (suc n))

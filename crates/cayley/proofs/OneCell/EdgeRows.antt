@@ -1,18 +1,20 @@
 -- the rows of a cell, one number and one row at a time
-use Rattle.std.proofs.Common.{◌≡◌, ℕ, zero, suc, ◌+◌, ◌-◌, ◌*◌, ◌<◌, ◌≤◌, ℤ, pos, ◌-ℤ◌, neg_ℤ, unsigned_abs, List, [], ◌∷◌, ◌++◌, length, take, arith, refl, ap, ap₂, sym, ◌∙◌, append_assoc, length-append, length-set, FitsSigned, replicate}
+use Rattle.std.proofs.Common.{◌≡◌, ℕ, zero, suc, ◌+◌, ◌-◌, ◌*◌, ◌<◌, ◌≤◌, ℤ, pos, ◌-ℤ◌, neg_ℤ, unsigned_abs, List, [], ◌∷◌, ◌++◌, length, take, arith, refl, ap, ap₂, sym, ◌∙◌, append_assoc, length-append, FitsSigned, replicate}
 use Rattle.std.specs.Prelude.{slice_index_or, slice_set}
 use Rattle.std.specs.Int.{w128}
 use Rattle.std.proofs.lemmas.Int.{ints}
-use Rattle.std.proofs.lemmas.List.{take_all, take_more, set-append_right, length-replicate}
+use Rattle.std.proofs.lemmas.List.{take_all, take_more, set-append_right}
 use Rattle.wide_int.specs.Whole.{FitsWhole}
 use Rattle.int_vectors.specs.Fits.{AllFit}
 use Rattle.int_vectors.proofs.Differences.{sub-more}
 use Rattle.int_vectors.specs.Vectors.{Each, scale, sub}
+use Rattle.int_vectors.proofs.DifferenceSums.{long_sub}
 use Rattle.cayley.specs.Cells.{EachPair}
 use Rattle.cayley.specs.Problems.{Point, origin, point_at}
 use Rattle.cayley.specs.Rows.{edge_row, edge_rows_from, unit_row}
 use Rattle.cayley.specs.Valid.{IsCornerCoordinate}
 use Rattle.cayley.proofs.Lists.Each.{all_each}
+use Rattle.cayley.proofs.OneCell.CellRows.{length-unit_row}
 
 pub abs_sub : (x y : ℤ) → unsigned_abs x ≤ 33000000 → unsigned_abs y ≤ 33000000 → unsigned_abs (x -ℤ y) ≤ 66000000
 abs_sub x y p q = omega (arith, ints)
@@ -45,12 +47,6 @@ pub fits_unit : (n i : ℕ) → AllFit (unit_row n i)
 fits_unit zero i = tt
 fits_unit (suc n) zero = (omega arith, fits_zeros n)
 fits_unit (suc n) (suc i) = (omega arith, fits_unit n i)
-
-pub length-sub : (xs ys : List ℤ) → length xs ≡ length ys → length (sub xs ys) ≡ length xs
-length-sub [] [] e = refl
-length-sub [] (y ∷ ys) e = absurd (omega arith)
-length-sub (x ∷ xs) [] e = absurd (omega arith)
-length-sub (x ∷ xs) (y ∷ ys) e = ap suc (length-sub xs ys (omega arith))
 
 pub unit_set : (old new : List ℤ) (start len n place : ℕ) → start ≡ length old → len ≡ length old → place < n → new ≡ take (start + n) old ++ replicate (start + n - len) (pos 0)
     → slice_set new (start + place) (pos 1) ≡ old ++ unit_row n place
@@ -106,13 +102,10 @@ pub more_rows : (rows : List (List ℤ)) (made new : List (List ℤ)) (k : ℕ) 
     → new ≡ take (k + 1) rows
 more_rows rows made new k row m e r l = e ∙ ap₂ (λ l r. l ++ r ∷ []) m r ∙ sym (take_more rows k row l)
 
-length-unit : (n i : ℕ) → length (unit_row n i) ≡ n
-length-unit n i = length-set (replicate n (pos 0)) i (pos 1) ∙ length-replicate n (pos 0)
-
 length-edge_row : (n i : ℕ) (a b : Point) → length a.coordinates ≡ n → length b.coordinates ≡ n → length (edge_row n i a b) ≡ 2 * n + 2
 length-edge_row n i a b p q =
-    let s = length-sub b.coordinates a.coordinates (omega arith) in
-    let u = length-unit n i in
+    let s = long_sub b.coordinates a.coordinates (omega arith) in
+    let u = length-unit_row n i in
     length-append (sub b.coordinates a.coordinates) ((b.base -ℤ a.base) ∷ (b.speed -ℤ a.speed) ∷ unit_row n i) ∙ omega arith
 
 -- each row has 2 n + 2 numbers

@@ -67,7 +67,7 @@ either_long : (b : Bool) (y z : Point) (ys zs : List Point) (n : ℕ) → length
 either_long true y z ys zs n e d = ap suc e
 either_long false y z ys zs n e d = ap suc d
 
-length-numbered : (i f position r : ℕ) (xs : List Point) → length (numbered i f position r xs) ≡ length xs
+pub length-numbered : (i f position r : ℕ) (xs : List Point) → length (numbered i f position r xs) ≡ length xs
 length-numbered i f position r [] = refl
 length-numbered i f position r (x ∷ xs) =
     either_long (is_start_corner i f position) (with_rank 0 x) (with_rank r x) (numbered i f (suc position) r xs) (numbered i f (suc position) (suc r) xs) (length xs)

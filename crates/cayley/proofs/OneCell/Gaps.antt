@@ -3,12 +3,13 @@ use Rattle.std.proofs.Common.{◌≡◌, ℕ, zero, suc, List, [], ◌∷◌, ar
 use Rattle.std.proofs.lemmas.Int.{ints}
 use Rattle.std.proofs.Math.IntN.{ℤ, pos, ◌+ℤ◌, ◌*ℤ◌, neg_ℤ, *ℤ-zero}
 use Rattle.wide_int.proofs.Ring.{as_D, Ds, same_D}
-use Rattle.cayley.proofs.Algebra.ScaledInverse.{at-add, at-scale, dot-add, dot-scale, dot-zero}
-use Rattle.cayley.proofs.Algebra.RowNormals.{gap-at, entry, at-zero}
+use Rattle.cayley.proofs.Algebra.ScaledInverse.{dot-add, dot-scale, dot-zero}
+use Rattle.cayley.proofs.Algebra.RowNormals.{gap-at, at-zero}
 use Rattle.cayley.proofs.OneCell.CellNormals.{one_normal}
 use Rattle.cayley.proofs.Order.Times.{Same}
 use Rattle.cayley.proofs.Flipping.Neighbours.{potential, gap-potential}
-use Rattle.int_vectors.specs.Vectors.{scale, add, sub, dot, at, at_place}
+use Rattle.int_vectors.specs.Vectors.{scale, add, sub, dot, at, at_place, entries_at}
+use Rattle.int_vectors.proofs.Entries.{at-scale, at-add}
 use Rattle.cayley.specs.Times.{Time}
 use Rattle.cayley.specs.Problems.{Point, Problem, IsProblem}
 use Rattle.cayley.specs.Normals.{Normal, height, gap, mark, IsNormal}
@@ -21,9 +22,9 @@ gap_two p cell well of ind t v w iv iw a c e =
     let d = sub c.coordinates a.coordinates in
     let h = sub (height t c) (height t a) in
     let z = dot-zero d _ (one_normal p cell well of ind t v w iv iw e) in
-    let s = sym (dot-add d (scale w.over (entry e v.entries)) (scale (neg_ℤ v.over) (entry e w.entries)) ∙ ap₂ ◌+ℤ◌ (dot-scale d w.over (entry e v.entries)) (dot-scale d (neg_ℤ v.over) (entry e w.entries))) ∙ z in
+    let s = sym (dot-add d (scale w.over (entries_at e v.entries)) (scale (neg_ℤ v.over) (entries_at e w.entries)) ∙ ap₂ ◌+ℤ◌ (dot-scale d w.over (entries_at e v.entries)) (dot-scale d (neg_ℤ v.over) (entries_at e w.entries))) ∙ z in
     ap (λ x. w.over *ℤ x) (gap-at d v.entries h t.over v.over e)
-    ∙ ring t.over v.over w.over (dot d (entry e v.entries)) (dot d (entry e w.entries)) (at h e) s
+    ∙ ring t.over v.over w.over (dot d (entries_at e v.entries)) (dot d (entries_at e w.entries)) (at h e) s
     ∙ ap (λ x. v.over *ℤ x) (sym (gap-at d w.entries h t.over w.over e))
   where
     step : (q d w x y h : ℤ) → w *ℤ (q *ℤ x +ℤ d *ℤ h) ≡ d *ℤ (q *ℤ y +ℤ w *ℤ h) +ℤ q *ℤ (w *ℤ x +ℤ neg_ℤ d *ℤ y)
@@ -87,7 +88,7 @@ pub gap_same : (t u : Time) → Same t u → (v : Normal) (a c : Point) (e : ℕ
 unfolding potential
 gap_same t u s v a c e =
     ap (λ x. u.over *ℤ x) (gap-potential t v a c e)
-    ∙ ring t.over u.over v.over (dot c.coordinates (entry e v.entries)) (dot a.coordinates (entry e v.entries)) _ _ _ _ (height_two t u c e s) (height_two t u a e s)
+    ∙ ring t.over u.over v.over (dot c.coordinates (entries_at e v.entries)) (dot a.coordinates (entries_at e v.entries)) _ _ _ _ (height_two t u c e s) (height_two t u a e s)
     ∙ ap (λ x. t.over *ℤ x) (sym (gap-potential u v a c e))
   where
     step : (r q d x h : ℤ) → r *ℤ (q *ℤ x +ℤ d *ℤ h) ≡ q *ℤ r *ℤ x +ℤ d *ℤ (r *ℤ h)

@@ -9,16 +9,15 @@ use native.Mathlib.Decide.{ℕ_discrete, dec_le, dec_lt}
 use Rattle.wide_int.proofs.Ring.{as_D, Ds, same_D, mul_neg_ℤ}
 use Rattle.wide_int.proofs.Order.{mul_cancel, mul_pos_ℤ}
 use Rattle.int_vectors.specs.Vectors.{Each, scale, add, at}
+use Rattle.int_vectors.proofs.Entries.{at-scale, at-add, length-scale}
 use Rattle.cayley.proofs.Order.Lexicographic.{minus_one}
 use Rattle.cayley.specs.Times.{time_zero}
 use Rattle.cayley.specs.Problems.{file_points}
 use Rattle.cayley.specs.Normals.{Normal}
 use Rattle.cayley.specs.Mixed.{IsCoprime, HasFirstEntries}
 use Rattle.cayley.specs.Laws.{OneLowestNormal}
-use Rattle.cayley.proofs.Algebra.Kernel.{length-map}
-use Rattle.cayley.proofs.Algebra.ScaledInverse.{at-add, at-scale}
-use Rattle.cayley.proofs.OneCell.CellNormals.{length-scale}
 use Rattle.cayley.proofs.OneCell.OneNormal.{same_values}
+use Rattle.cayley.proofs.Algebra.Dependence.{length-map}
 
 -- lists of one length with the same entries
 same_at : (xs ys : List ℤ) → length xs ≡ length ys → ((e : ℕ) → at xs e ≡ at ys e) → xs ≡ ys
@@ -261,7 +260,7 @@ entry_first : (w : Normal) (v : List ℤ) (den : ℤ) → HasFirstEntries w v de
 unfolding first_entries
 entry_first w v den h e = sym (at-scale w.over v e) ∙ ap (λ l. at l e) h ∙ at-scale den (map (λ x. at x 0) w.entries) e
 
-long_first : (w : Normal) (v : List ℤ) (den : ℤ) → HasFirstEntries w v den → length v ≡ length w.entries
+pub long_first : (w : Normal) (v : List ℤ) (den : ℤ) → HasFirstEntries w v den → length v ≡ length w.entries
 long_first w v den h = sym (length-scale w.over v) ∙ ap length h ∙ length-scale den (map (λ x. at x 0) w.entries) ∙ length-map (λ x. at x 0) w.entries
 
 proportion : (p q a b x y s t : ℤ) → pos 0 <ℤ p → pos 0 <ℤ q → p *ℤ x ≡ a *ℤ s → q *ℤ y ≡ b *ℤ t → q *ℤ s ≡ p *ℤ t → b *ℤ x ≡ a *ℤ y

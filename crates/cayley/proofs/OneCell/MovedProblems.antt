@@ -12,7 +12,7 @@ use Rattle.cayley.specs.Stored.{file_point, point}
 use Rattle.cayley.specs.declared.points.FilePoint.{FilePoint as StoredFilePoint}
 use Rattle.cayley.specs.declared.points.Point.{Point as StoredPoint}
 use Rattle.cayley.proofs.Lists.Each.{all_each, each_unmap, each_weaker, map_at, map_map, map_take}
-use Rattle.cayley.proofs.OneCell.PlainProblems.{counts_of}
+use Rattle.cayley.proofs.OneCell.PlainProblems.{counts_of, any}
 use Rattle.std.specs.List.{All}
 use Rattle.cayley.specs.Valid.{IsHeight, IsValidFile, IsValidProblem, AreDistinct, IsWithinFile, IsWithinProblem, IsWithinCorners}
 
@@ -47,7 +47,7 @@ all_moved_unranked [] second = refl
 all_moved_unranked (s ∷ ss) [] = refl
 all_moved_unranked (s ∷ ss) (hs ∷ second) = ap₂ (λ x xs. x ∷ xs) (moved_unranked s hs) (all_moved_unranked ss second)
 
-length-moved : (s : List FilePoint) (hs : List ℤ) → length hs ≡ length s → length (moved_points s hs) ≡ length s
+pub length-moved : (s : List FilePoint) (hs : List ℤ) → length hs ≡ length s → length (moved_points s hs) ≡ length s
 length-moved [] hs e = refl
 length-moved (x ∷ s) [] e = absurd (omega (arith, e))
 length-moved (x ∷ s) (h ∷ hs) e = ap suc (length-moved s hs (omega (arith, e)))
@@ -68,10 +68,6 @@ by_support Q H P f i (s ∷ ss) (hs ∷ second) e q h =
     let a : length hs ≡ length s = ap (λ (l : List ℕ). slice_index_or l 0 0) e in
     let b : map length second ≡ map length ss = ap (λ (l : List ℕ). drop 1 l) e in
     (f i s hs a q.0 h.0, by_support Q H P f (suc i) ss second b q.1 h.1)
-
-any : {A : Type 0} (xs : List A) → Each xs (λ x. Unit {0})
-any [] = tt
-any (x ∷ xs) = (tt, any xs)
 
 module _ (s : List FilePoint) (hs : List ℤ) (e : length hs ≡ length s) where
   whole : (P : Point → Type 0) → Each (moved_points s hs) P → Each (take (length s) (moved_points s hs)) P
@@ -138,7 +134,7 @@ between_valid file second v h =
         subst AreDistinct (sym (ap (map (λ (x : Point). x.coordinates)) t ∙ same_coordinates s hs e)) q
 
 -- ---- from the points as they are stored
-taken : {A B : Type 0} (f : A → B) (k : ℕ) (xs : List A) → map f (take (k + 1) xs) ≡ take (suc k) (map f xs)
+pub taken : {A B : Type 0} (f : A → B) (k : ℕ) (xs : List A) → map f (take (k + 1) xs) ≡ take (suc k) (map f xs)
 taken f k xs = let e : k + 1 ≡ suc k = omega arith in ap (λ n. map f (take n xs)) e ∙ map_take f (suc k) xs
 
 pub next_points : (xs : List StoredFilePoint) (hs : List ℤ) (made new : List StoredPoint) (k : ℕ) (x : StoredFilePoint) (h : ℤ) (p : StoredPoint)

@@ -7,15 +7,14 @@ use native.Mathlib.Decide.{ℕ_discrete}
 use Rattle.std.proofs.Math.IntN.{ℤ, pos, ◌+ℤ◌, ◌-ℤ◌, ◌*ℤ◌, neg_ℤ, *ℤ-zero}
 use Rattle.wide_int.proofs.Ring.{as_D, Ds, same_D, D-pos}
 use Rattle.wide_int.proofs.Order.{mul_pos_ℤ}
-use Rattle.int_vectors.specs.Vectors.{Each, IsZero, IsPositive, add, sub, scale, dot, at}
+use Rattle.int_vectors.specs.Vectors.{Each, IsZero, IsPositive, add, sub, scale, dot, at, entries_at}
+use Rattle.int_vectors.proofs.Entries.{at-scale, at-add, zero_from}
 use Rattle.cayley.specs.Times.{Time}
 use Rattle.cayley.specs.Problems.{Point, Problem, IsProblem, origin, point_at}
 use Rattle.cayley.specs.Cells.{Cell, EachPair, IsOf, IsIndependent, IsFurther}
-use Rattle.cayley.specs.Normals.{Normal, mark, height, gap, IsNormal}
+use Rattle.cayley.specs.Normals.{Normal, mark, height, gap, IsNormal, values}
 use Rattle.cayley.specs.Mixed.{IsAlive}
-use Rattle.cayley.proofs.Algebra.ScaledInverse.{at-add, at-scale}
-use Rattle.cayley.proofs.Algebra.RowDependencies.{zero-at}
-use Rattle.cayley.proofs.Algebra.RowNormals.{gap-at, entry, at-zero}
+use Rattle.cayley.proofs.Algebra.RowNormals.{gap-at, at-zero}
 use Rattle.cayley.proofs.Order.Soon.{each_pair-map}
 use Rattle.cayley.proofs.OneCell.OneNormal.{all_above_any}
 use Rattle.cayley.proofs.Life.Ends.{Late}
@@ -26,13 +25,9 @@ use Rattle.cayley.proofs.Order.Proportion.{in_proportion}
 use Rattle.cayley.proofs.Order.Times.{turned}
 use Rattle.cayley.proofs.Order.Lines.{Line, line_at, SignAfter}
 use Rattle.cayley.proofs.OneCell.CellLines.{base_of, height-at}
+use Rattle.cayley.proofs.Lists.Each.{each_append}
 
 -- over p / den moving by q / den: the values (Q p + P q) / (Q den) at the time P / Q
-abbrev pub values : Time → List ℤ → List ℤ → List (List ℤ)
-values t [] qs = []
-values t (p ∷ ps) [] = []
-values t (p ∷ ps) (q ∷ qs) = add ((t.over *ℤ p) ∷ []) (scale q t.entries) ∷ values t ps qs
-
 pub record Moving : Type 0 where
   pub den : ℤ
   pub positive : pos 0 <ℤ den
@@ -65,7 +60,7 @@ unit_is x (suc e) = omega (arith, ints)
 zeros : (q u x : ℤ) → pos 0 ≡ q *ℤ (pos 0 *ℤ u) +ℤ pos 0 *ℤ x
 zeros q u x = rw (as_D q, as_D u, as_D x, D-pos 0) (simp Ds (same_D _ _ _ _ (omega arith)))
 
-dot_values : (t : Time) (ds ps qs : List ℤ) (e : ℕ) → length ps ≡ length qs → dot ds (entry e (values t ps qs)) ≡ t.over *ℤ (dot ds ps *ℤ unit e) +ℤ dot ds qs *ℤ at t.entries e
+dot_values : (t : Time) (ds ps qs : List ℤ) (e : ℕ) → length ps ≡ length qs → dot ds (entries_at e (values t ps qs)) ≡ t.over *ℤ (dot ds ps *ℤ unit e) +ℤ dot ds qs *ℤ at t.entries e
 dot_values t [] ps qs e l = zeros t.over (unit e) (at t.entries e)
 dot_values t (d ∷ ds) [] [] e l = zeros t.over (unit e) (at t.entries e)
 dot_values t (d ∷ ds) [] (q ∷ qs) e l = absurd (omega (arith, l))
@@ -134,7 +129,7 @@ abbrev Holds : Bool → Type 0
 Holds true = Unit {0}
 Holds false = ⊥
 
-apart : (k a : ℕ) → (k == a) ≡ false → k ≢ a
+pub apart : (k a : ℕ) → (k == a) ≡ false → k ≢ a
 apart k a e q = subst Holds (sym (eq-eqb k a q) ∙ e) tt
 
 -- the points at positions k, .. but for a and b
@@ -178,10 +173,6 @@ each_beyond Q m x a b k (y ∷ ys) e c l h n i =
     zero_is : c ≡ k → 0 ≡ c - k
     zero_is s = omega (arith, s)
 
-each_join : {A : Type 0} (Q : A → Type 0) (xs ys : List A) → Each xs Q → Each ys Q → Each (xs ++ ys) Q
-each_join Q [] ys h k = k
-each_join Q (x ∷ xs) ys h k = (h.0, each_join Q xs ys h.1 k)
-
 each_parts : {A : Type 0} (Q : A → Type 0) (xs ys : List A) → Each (xs ++ ys) Q → Each xs Q × Each ys Q
 each_parts Q [] ys h = (tt, h)
 each_parts Q (x ∷ xs) ys h = let r = each_parts Q xs ys h.1 in ((h.0, r.0), r.1)
@@ -193,7 +184,7 @@ pub all_walls : (Q : Line → Type 0) (m : Moving) (supports : List (List Point)
 all_walls Q m [] cell e = tt
 all_walls Q m (s ∷ supports) [] e = tt
 all_walls Q m (s ∷ supports) (x ∷ cell) e =
-    each_join Q (walls_from m (point_at s x.0) x.0 x.1 1 s) (walls m supports cell)
+    each_append Q (walls_from m (point_at s x.0) x.0 x.1 1 s) (walls m supports cell)
     (walls_each Q m (point_at s x.0) x.0 x.1 1 s (λ c l h n i. e.0 c (l, omega (arith, h), n, i)))
     (all_walls Q m supports cell e.1)
 
@@ -236,7 +227,7 @@ module _ (p : Problem) (cell : Cell) (well : IsProblem p) (of : IsOf p cell) (in
   moving_normal t = (
     long_values t m.starts m.slopes m.long ∙ frame.0,
     each_pair-map p.supports cell _ _
-        (λ s a b h. zero-at (gap t (moving m t) (point_at s a) (point_at s b)) (λ e. moving_gap m t (point_at s a) (point_at s b) e ∙ ap (λ x. t.over *ℤ x) (flat_line (wall m (point_at s a) (point_at s b)) t e h.0 h.1) ∙ *ℤ-zero t.over))
+        (λ s a b h. zero_from (gap t (moving m t) (point_at s a) (point_at s b)) (λ e. moving_gap m t (point_at s a) (point_at s b) e ∙ ap (λ x. t.over *ℤ x) (flat_line (wall m (point_at s a) (point_at s b)) t e h.0 h.1) ∙ *ℤ-zero t.over))
         frame.1,
   )
 

@@ -5,11 +5,11 @@ use Rattle.std.proofs.Math.IntN.{ℤ, pos, ◌*ℤ◌, neg_ℤ}
 use Rattle.wide_int.proofs.Ring.{as_D, Ds, same_D}
 use Rattle.wide_int.proofs.Order.{mul_cancel}
 use Rattle.int_vectors.specs.Vectors.{Each, IsZero, IsPositive, scale, at}
+use Rattle.int_vectors.proofs.Entries.{at-scale}
 use Rattle.cayley.specs.Times.{Time}
 use Rattle.cayley.specs.Problems.{Point, Problem, IsProblem, point_at}
 use Rattle.cayley.specs.Cells.{Cell, EachPair, IsOf, IsIndependent}
 use Rattle.cayley.specs.Normals.{Normal, gap, IsNormal}
-use Rattle.cayley.proofs.Algebra.ScaledInverse.{at-scale}
 use Rattle.cayley.proofs.Order.Proportion.{in_proportion, zero_in_proportion}
 use Rattle.cayley.proofs.Order.Lines.{Line, line_at}
 use Rattle.cayley.proofs.Searching.Listing.{Has}

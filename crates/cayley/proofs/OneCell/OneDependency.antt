@@ -6,24 +6,26 @@ use Rattle.std.proofs.Math.IntN.{ℤ, pos, ◌+ℤ◌, ◌-ℤ◌, ◌*ℤ◌, n
 use Rattle.wide_int.proofs.Ring.{as_D, Ds, same_D}
 use Rattle.cayley.proofs.Order.Lexicographic.{minus_one}
 use Rattle.cayley.proofs.Order.Proportion.{in_proportion, zero_in_proportion}
-use Rattle.cayley.proofs.Algebra.Kernel.{length-map}
-use Rattle.cayley.proofs.Algebra.ScaledInverse.{at-add, at-scale, dot-zero}
+use Rattle.cayley.proofs.Algebra.ScaledInverse.{dot-zero}
 use Rattle.cayley.proofs.Algebra.RowDependencies.{IsDependency, multiple}
-use Rattle.cayley.proofs.Algebra.RowNormals.{at-zero, entry}
-use Rattle.cayley.proofs.OneCell.CellNormals.{edges, long-edges, rows_independent, long_rows}
+use Rattle.cayley.proofs.Algebra.RowNormals.{at-zero}
+use Rattle.cayley.proofs.OneCell.CellNormals.{long-edges, rows_independent, long_rows}
 use Rattle.cayley.proofs.OneCell.CellLines.{a_dependency}
 use Rattle.cayley.proofs.Flipping.Neighbours.{potential, gap-potential, dot-sub}
 use Rattle.cayley.proofs.Order.Soon.{each_pair-map}
 use Rattle.cayley.proofs.OneCell.CellNumbers.{total-lin, total-nothing, total-same, against, pair_row}
 use Rattle.cayley.proofs.Flipping.Places.{pairs_long, further_bound}
 use Rattle.cayley.proofs.Flipping.FlipScenes.{InRange}
-use Rattle.int_vectors.specs.Vectors.{weigh, IsZero, Each, scale, add, sub, dot, at}
+use Rattle.int_vectors.specs.Vectors.{weigh, IsZero, Each, scale, add, sub, dot, at, zeros, entries_at}
+use Rattle.int_vectors.proofs.Entries.{at-scale, at-add, length-zeros}
 use Rattle.cayley.specs.Problems.{Point, origin, Problem, point_at, IsProblem}
 use Rattle.cayley.specs.Times.{Time}
 use Rattle.cayley.specs.Normals.{Normal, height, gap, IsNormal}
 use Rattle.cayley.specs.Cells.{Cell, EachPair, IsOf, IsIndependent}
-use Rattle.cayley.specs.Dependencies.{Numbers, SumsAreZero, total, IsDependencyWith, number_at, support_at, pair_at, IsPositiveDependency, sum_of_heights, sum_at, minus, IsMultiple}
+use Rattle.cayley.specs.Dependencies.{Numbers, SumsAreZero, total, IsDependencyWith, number_at, pair_at, IsPositiveDependency, sum_of_heights, sum_at, minus, IsMultiple, nth_support}
 use Rattle.cayley.specs.Laws.{Sides, OneDependency}
+use Rattle.cayley.specs.Rows.{edges}
+use Rattle.cayley.proofs.Algebra.Dependence.{length-map}
 
 -- ---- the sign
 total-two : (ms : List (ℤ × ℤ)) (supports : List (List Point)) (cell : Cell) (a b : ℤ) (f g : Point → ℤ) → total ms supports cell (λ q. a *ℤ f q +ℤ b *ℤ g q) ≡ a *ℤ total ms supports cell f +ℤ b *ℤ total ms supports cell g
@@ -66,7 +68,7 @@ total_even (m ∷ ms) (s ∷ supports) (x ∷ cell) (suc j) f z e =
     step a b x h = let r = cancel b x in rw h (omega (arith, ints, r))
 
 total_level : (ms : List (ℤ × ℤ)) (supports : List (List Point)) (cell : Cell) (j : ℕ) (g : ℤ) (f : Point → ℤ) → length ms ≡ length cell → length supports ≡ length cell → suc j ≤ length cell → SumsAreZero ms j g
-    → EachPair supports cell (λ s a b. f (point_at s b) ≡ f (point_at s a)) → total ms supports cell f ≡ neg_ℤ g *ℤ f (point_at (support_at supports j) (pair_at cell j).0)
+    → EachPair supports cell (λ s a b. f (point_at s b) ≡ f (point_at s a)) → total ms supports cell f ≡ neg_ℤ g *ℤ f (point_at (nth_support supports j) (pair_at cell j).0)
 total_level ms supports [] j g f l n i z e = absurd (omega (arith, i))
 total_level [] supports (x ∷ cell) j g f l n i z e = absurd (omega (arith, l))
 total_level (m ∷ ms) [] (x ∷ cell) j g f l n i z e = absurd (omega (arith, n))
@@ -79,7 +81,7 @@ total_level (m ∷ ms) (s ∷ supports) (x ∷ cell) zero g f l n i z e =
     step : (a b g x : ℤ) → a ≡ neg_ℤ (b +ℤ g) → a *ℤ x +ℤ b *ℤ x +ℤ pos 0 ≡ neg_ℤ g *ℤ x
     step a b g x h = let r = ring b g x in rw h (omega (arith, ints, r))
 total_level (m ∷ ms) (s ∷ supports) (x ∷ cell) (suc j) g f l n i z e =
-    rw (total_level ms supports cell j g f (omega (arith, l)) (omega (arith, n)) (omega (arith, i)) z.1 e.1, e.0) (step m.0 m.1 (f (point_at s x.0)) (neg_ℤ g *ℤ f (point_at (support_at supports j) (pair_at cell j).0)) (let h = z.0 in omega (arith, ints, h)))
+    rw (total_level ms supports cell j g f (omega (arith, l)) (omega (arith, n)) (omega (arith, i)) z.1 e.1, e.0) (step m.0 m.1 (f (point_at s x.0)) (neg_ℤ g *ℤ f (point_at (nth_support supports j) (pair_at cell j).0)) (let h = z.0 in omega (arith, ints, h)))
   where
     cancel : (b x : ℤ) → neg_ℤ b *ℤ x ≡ neg_ℤ (b *ℤ x)
     cancel b x = rw (as_D b, as_D x) (simp Ds (same_D _ _ _ _ (omega arith)))
@@ -88,16 +90,16 @@ total_level (m ∷ ms) (s ∷ supports) (x ∷ cell) (suc j) g f l n i z e =
     step a b x s h = let r = cancel b x in rw h (omega (arith, ints, r))
 
 -- the sum is in proportion to the gap
-pub sum_gap : (p : Problem) (cell : Cell) (j c : ℕ) (numbers : Numbers) → suc j ≤ length cell → length numbers.pairs ≡ length cell → IsDependencyWith p cell j (point_at (support_at p.supports j) c) numbers
+pub sum_gap : (p : Problem) (cell : Cell) (j c : ℕ) (numbers : Numbers) → suc j ≤ length cell → length numbers.pairs ≡ length cell → IsDependencyWith p cell j (point_at (nth_support p.supports j) c) numbers
     → (t : Time) (v : Normal) → IsNormal p cell t v → (e : ℕ)
-    → v.over *ℤ at (sum_at t numbers p cell (point_at (support_at p.supports j) c)) e ≡ numbers.last *ℤ at (gap t v (point_at (support_at p.supports j) (pair_at cell j).0) (point_at (support_at p.supports j) c)) e
+    → v.over *ℤ at (sum_at t numbers p cell (point_at (nth_support p.supports j) c)) e ≡ numbers.last *ℤ at (gap t v (point_at (nth_support p.supports j) (pair_at cell j).0) (point_at (nth_support p.supports j) c)) e
 unfolding potential
 sum_gap p cell j c numbers bound long d t v is e =
     let g = numbers.last in
     let ms = numbers.pairs in
-    let q = point_at (support_at p.supports j) c in
-    let a = point_at (support_at p.supports j) (pair_at cell j).0 in
-    let w = entry e v.entries in
+    let q = point_at (nth_support p.supports j) c in
+    let a = point_at (nth_support p.supports j) (pair_at cell j).0 in
+    let w = entries_at e v.entries in
     let even = each_pair-map p.supports cell (λ s a b. IsZero (gap t v (point_at s a) (point_at s b))) (λ s a b. potential t v (point_at s b) e ≡ potential t v (point_at s a) e)
     (λ s a b z. let h = sym (gap-potential t v (point_at s a) (point_at s b) e) ∙ at-zero (gap t v (point_at s a) (point_at s b)) e z in omega (arith, ints, h)) is.1 in
     let one = total_level ms p.supports cell j g (λ r. potential t v r e) long (pairs_long p.supports cell _ is.1) bound d.1 even in
@@ -122,8 +124,8 @@ sum_gap p cell j c numbers bound long d t v is e =
 
 pub sides : (p : Problem) (cell : Cell) (j c : ℕ) (numbers : Numbers) → suc j ≤ length cell → IsPositiveDependency p cell j c numbers → (t : Time) (v : Normal) → IsNormal p cell t v → Sides p cell j c numbers t v
 sides p cell j c numbers bound d t v is =
-    let S = sum_at t numbers p cell (point_at (support_at p.supports j) c) in
-    let G = gap t v (point_at (support_at p.supports j) (pair_at cell j).0) (point_at (support_at p.supports j) c) in
+    let S = sum_at t numbers p cell (point_at (nth_support p.supports j) c) in
+    let G = gap t v (point_at (nth_support p.supports j) (pair_at cell j).0) (point_at (nth_support p.supports j) c) in
     let e = sum_gap p cell j c numbers bound d.1.0 d.1.1 t v is in
     let pv = v.positive in
     let pg = d.0 in
@@ -199,7 +201,7 @@ even_rows (m ∷ ms) (s ∷ supports) (x ∷ cell) zero w z = ap₂ ◌+ℤ◌ (
 even_rows (m ∷ ms) (s ∷ supports) (x ∷ cell) (suc j) w z = ap₂ ◌+ℤ◌ (pair_row m (point_at s x.0) (point_at s x.1) w z.0) (even_rows ms supports cell j w z.1)
 
 level_rows : (ms : List (ℤ × ℤ)) (supports : List (List Point)) (cell : Cell) (j : ℕ) (g : ℤ) (w : List ℤ) → length ms ≡ length cell → length supports ≡ length cell → suc j ≤ length cell → SumsAreZero ms j g
-    → total ms supports cell (λ q. dot q.coordinates w) ≡ weigh (seconds ms) (edges supports cell) (λ r. dot r w) -ℤ g *ℤ dot (point_at (support_at supports j) (pair_at cell j).0).coordinates w
+    → total ms supports cell (λ q. dot q.coordinates w) ≡ weigh (seconds ms) (edges supports cell) (λ r. dot r w) -ℤ g *ℤ dot (point_at (nth_support supports j) (pair_at cell j).0).coordinates w
 level_rows ms supports [] j g w l n i z = absurd (omega (arith, i))
 level_rows [] supports (x ∷ cell) j g w l n i z = absurd (omega (arith, l))
 level_rows (m ∷ ms) [] (x ∷ cell) j g w l n i z = absurd (omega (arith, n))
@@ -222,9 +224,9 @@ level_rows (m ∷ ms) (s ∷ supports) (x ∷ cell) (suc j) g w l n i z =
     omega (arith, ints, r, u)
 
 row_dependency : (p : Problem) (cell : Cell) (j : ℕ) (c : Point) (numbers : Numbers) → length p.supports ≡ length cell → suc j ≤ length cell → length numbers.pairs ≡ length cell → IsDependencyWith p cell j c numbers
-    → IsDependency p.dimension (edges p.supports cell) (sub c.coordinates (point_at (support_at p.supports j) (pair_at cell j).0).coordinates) (seconds numbers.pairs) numbers.last
+    → IsDependency p.dimension (edges p.supports cell) (sub c.coordinates (point_at (nth_support p.supports j) (pair_at cell j).0).coordinates) (seconds numbers.pairs) numbers.last
 row_dependency p cell j c numbers n bound long d w l =
-    let a = point_at (support_at p.supports j) (pair_at cell j).0 in
+    let a = point_at (nth_support p.supports j) (pair_at cell j).0 in
     let r = level_rows numbers.pairs p.supports cell j numbers.last w long n bound d.1 in
     let e = against numbers.pairs p.supports cell numbers.last c d.2 p.dimension w l in
     let u = ap (λ x. numbers.last *ℤ x) (dot-sub c.coordinates a.coordinates w) in
@@ -270,9 +272,9 @@ by_seconds ms ns j g h l y z e = go ms ns j g h l y z e
     go (m ∷ ms) (n ∷ ns) (suc j) g h l y z e (suc i) = go ms ns j g h (omega (arith, l)) y.1 z.1 (λ k. e (suc k)) i
 
 pub multiples : (p : Problem) (cell : Cell) (j c : ℕ) → IsProblem p → IsOf p cell → IsIndependent p cell → suc j ≤ length cell → (numbers others : Numbers) → length numbers.pairs ≡ length cell → length others.pairs ≡ length cell
-    → IsDependencyWith p cell j (point_at (support_at p.supports j) c) numbers → IsDependencyWith p cell j (point_at (support_at p.supports j) c) others → IsMultiple others numbers
+    → IsDependencyWith p cell j (point_at (nth_support p.supports j) c) numbers → IsDependencyWith p cell j (point_at (nth_support p.supports j) c) others → IsMultiple others numbers
 multiples p cell j c well of ind bound m n lm ln dm dn =
-    let q = point_at (support_at p.supports j) c in
+    let q = point_at (nth_support p.supports j) c in
     let l = pairs_long p.supports cell InRange of in
     let long = λ (ms : List (ℤ × ℤ)) (k : length ms ≡ length cell). length-seconds ms ∙ k ∙ sym l ∙ well.supports in
     let z = multiple p.dimension (edges p.supports cell) _ (seconds n.pairs) (seconds m.pairs) n.last m.last (long_rows p cell well of ind) (long n.pairs ln) (long m.pairs lm) (rows_independent p cell well of ind)
@@ -288,10 +290,6 @@ multiples p cell j c well of ind bound m n lm ln dm dn =
     cancel b x = rw (as_D b, as_D x) (simp Ds (same_D _ _ _ _ (omega arith)))
 
 -- ---- existence
-zeros : ℕ → List ℤ
-zeros zero = []
-zeros (suc n) = pos 0 ∷ zeros n
-
 abbrev spike : ℕ → ℕ → List ℤ
 spike zero k = []
 spike (suc n) zero = pos 1 ∷ zeros n
@@ -301,11 +299,6 @@ zeros-zero : (n : ℕ) → IsZero (zeros n)
 unfolding zeros
 zeros-zero zero = tt
 zeros-zero (suc n) = (refl, zeros-zero n)
-
-length-zeros : (n : ℕ) → length (zeros n) ≡ n
-unfolding zeros
-length-zeros zero = refl
-length-zeros (suc n) = ap suc (length-zeros n)
 
 length-spike : (n k : ℕ) → length (spike n k) ≡ n
 length-spike zero k = refl
@@ -326,7 +319,7 @@ weigh-spike [] rows n k e = refl
 weigh-spike (b ∷ bs) [] n k e = refl
 weigh-spike (b ∷ bs) (r ∷ rows) n k e = ap₂ (λ x y. b *ℤ x +ℤ y) (dot-spike r n k (same_le (length r) n e.0)) (weigh-spike bs rows n k e.1)
 
-minus-at : (u v : List ℤ) (k : ℕ) → at (sub u v) k ≡ at u k -ℤ at v k
+pub minus-at : (u v : List ℤ) (k : ℕ) → at (sub u v) k ≡ at u k -ℤ at v k
 minus-at u v k = at-add u (scale (neg_ℤ (pos 1)) v) k ∙ ap (λ q. at u k +ℤ q) (at-scale (neg_ℤ (pos 1)) v k ∙ minus_one (at v k))
 
 total-even : (bs : List ℤ) (supports : List (List Point)) (cell : Cell) (k : ℕ) → length supports ≡ length cell → total (even_pairs bs cell) supports cell (λ q. at q.coordinates k) ≡ weigh bs (edges supports cell) (λ r. at r k)
@@ -347,7 +340,7 @@ total-even bs (s ∷ supports) (x ∷ cell) k l =
     ring b x y = rw (as_D b, as_D x, as_D y) (simp Ds (same_D _ _ _ _ (omega arith)))
 
 total-from : (bs : List ℤ) (supports : List (List Point)) (cell : Cell) (j : ℕ) (g : ℤ) (k : ℕ) → length supports ≡ length cell → suc j ≤ length cell
-    → total (pairs_from bs j g cell) supports cell (λ q. at q.coordinates k) ≡ weigh bs (edges supports cell) (λ r. at r k) -ℤ g *ℤ at (point_at (support_at supports j) (pair_at cell j).0).coordinates k
+    → total (pairs_from bs j g cell) supports cell (λ q. at q.coordinates k) ≡ weigh bs (edges supports cell) (λ r. at r k) -ℤ g *ℤ at (point_at (nth_support supports j) (pair_at cell j).0).coordinates k
 total-from bs supports [] j g k l i = absurd (omega (arith, i))
 total-from bs [] (x ∷ cell) j g k l i = absurd (omega (arith, l))
 total-from bs (s ∷ supports) (x ∷ cell) zero g k l i =
@@ -382,18 +375,18 @@ at_most n [] i e = nothing_le n
 at_most n (x ∷ s) zero e = same_le (length x.coordinates) n e.0
 at_most n (x ∷ s) (suc i) e = at_most n s i e.1
 
-each-at : (supports : List (List Point)) (n : ℕ) (j : ℕ) → suc j ≤ length supports → Each supports (λ s. Each s (λ (x : Point). length x.coordinates ≡ n)) → (k : ℕ) → length (point_at (support_at supports j) k).coordinates ≤ n
+each-at : (supports : List (List Point)) (n : ℕ) (j : ℕ) → suc j ≤ length supports → Each supports (λ s. Each s (λ (x : Point). length x.coordinates ≡ n)) → (k : ℕ) → length (point_at (nth_support supports j) k).coordinates ≤ n
 each-at [] n j i e k = absurd (omega (arith, i))
 each-at (s ∷ supports) n zero i e k = at_most n s (k - 1) e.0
 each-at (s ∷ supports) n (suc j) i e k = each-at supports n j (omega (arith, i)) e.1 k
 
 -- a dependency of the rows, with bs at the second points and g at the further one, as one of the cell
 pub numbers_of_rows : (p : Problem) (cell : Cell) (j c : ℕ) → IsProblem p → IsOf p cell → suc j ≤ length cell → (bs : List ℤ) (g : ℤ) → pos 0 <ℤ g
-    → IsDependency p.dimension (edges p.supports cell) (sub (point_at (support_at p.supports j) c).coordinates (point_at (support_at p.supports j) (pair_at cell j).0).coordinates) bs g
+    → IsDependency p.dimension (edges p.supports cell) (sub (point_at (nth_support p.supports j) c).coordinates (point_at (nth_support p.supports j) (pair_at cell j).0).coordinates) bs g
     → IsPositiveDependency p cell j c (record { pairs = pairs_from bs j g cell; last = g })
 numbers_of_rows p cell j c well of bound bs g positive dep =
-    let a = point_at (support_at p.supports j) (pair_at cell j).0 in
-    let q = point_at (support_at p.supports j) c in
+    let a = point_at (nth_support p.supports j) (pair_at cell j).0 in
+    let q = point_at (nth_support p.supports j) c in
     let l = pairs_long p.supports cell InRange of in
     let at_j = each-at p.supports p.dimension j (omega (arith, bound, l)) well.points in (
       positive,
@@ -421,8 +414,8 @@ numbers_of_rows p cell j c well of bound bs g positive dep =
 
 pub numbers_exist : (p : Problem) (cell : Cell) (j c : ℕ) → IsProblem p → IsOf p cell → IsIndependent p cell → suc j ≤ length cell → (numbers : Numbers) × IsPositiveDependency p cell j c numbers
 numbers_exist p cell j c well of ind bound =
-    let a = point_at (support_at p.supports j) (pair_at cell j).0 in
-    let q = point_at (support_at p.supports j) c in
+    let a = point_at (nth_support p.supports j) (pair_at cell j).0 in
+    let q = point_at (nth_support p.supports j) c in
     let d = a_dependency p.dimension (edges p.supports cell) (sub q.coordinates a.coordinates) (long_rows p cell well of ind) (rows_independent p cell well of ind) in
     (record { pairs = pairs_from d.bs j d.g cell; last = d.g }, numbers_of_rows p cell j c well of bound d.bs d.g d.positive d.is)
 

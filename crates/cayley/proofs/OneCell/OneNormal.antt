@@ -11,13 +11,13 @@ use Rattle.cayley.specs.Cells.{Cell, IsOf, IsIndependent}
 use Rattle.cayley.specs.Normals.{Normal, gap, IsNormal, AllAbove, HasSameValues}
 use Rattle.cayley.specs.Mixed.{IsAlive}
 use Rattle.cayley.specs.Laws.{OneNormal, AliveByAnyNormal}
-use Rattle.cayley.proofs.Algebra.Kernel.{length-map}
 use Rattle.cayley.proofs.OneCell.CellNormals.{a_normal, one_normal}
 use Rattle.cayley.proofs.Order.Soon.{each_pair-map}
 use Rattle.cayley.proofs.OneCell.Gaps.{gap_two}
+use Rattle.cayley.proofs.Algebra.Dependence.{length-map}
 
 -- a difference that is zero, of lists of one length
-same_lists : (a b : ℤ) (xs ys : List ℤ) → length xs ≡ length ys → IsZero (add (scale a xs) (scale (neg_ℤ b) ys)) → scale a xs ≡ scale b ys
+pub same_lists : (a b : ℤ) (xs ys : List ℤ) → length xs ≡ length ys → IsZero (add (scale a xs) (scale (neg_ℤ b) ys)) → scale a xs ≡ scale b ys
 same_lists a b [] [] l z = refl
 same_lists a b [] (y ∷ ys) l z = absurd (omega (arith, l))
 same_lists a b (x ∷ xs) [] l z = absurd (omega (arith, l))

@@ -1,10 +1,10 @@
 -- the problem of a file's points alone keeps what problems keep
-use Rattle.std.proofs.Common.{◌≡◌, ℕ, suc, ◌≤◌, List, [], ◌∷◌, length, map, take, drop, arith, refl, ap, sym, ◌∙◌, subst, inl}
+use Rattle.std.proofs.Common.{◌≡◌, ℕ, suc, ◌≤◌, List, [], ◌∷◌, length, map, take, drop, arith, refl, ap, sym, ◌∙◌, subst, inl, zero, ap₂}
 use Rattle.std.proofs.lemmas.List.{length-map, take_all, drop_all}
 use Rattle.std.proofs.Math.IntN.{pos, ◌+ℤ◌}
 use Rattle.int_vectors.specs.Vectors.{Each}
 use Rattle.std.proofs.lemmas.Int.{ints}
-use Rattle.cayley.specs.Problems.{Version, version1, Point, Problem, EachSupport, IsStill, with_rank, ranked_supports, unperturbed}
+use Rattle.cayley.specs.Problems.{Version, version1, Point, Problem, EachSupport, IsStill, with_rank, ranked_supports, unperturbed, first_points}
 use Rattle.cayley.specs.Files.{FilePoint, File, resting, plain_problem}
 use Rattle.cayley.specs.declared.points.FilePoint.{FilePoint as StoredFilePoint}
 use Rattle.cayley.specs.Stored.{file_point}
@@ -46,7 +46,7 @@ still : (s : List FilePoint) → Each s (λ x. (resting x).speed ≡ pos 0)
 still [] = tt
 still (x ∷ s) = (refl, still s)
 
-any : {A : Type 0} (xs : List A) → Each xs (λ x. Unit {0})
+pub any : {A : Type 0} (xs : List A) → Each xs (λ x. Unit {0})
 any [] = tt
 any (x ∷ xs) = (tt, any xs)
 
@@ -104,3 +104,15 @@ pub alike : {v v' : Version} {d d' : ℕ} {fs fs' : List ℕ} {ss ss' : List (Li
     → let made : Problem = record { version = v; dimension = d; files = fs; supports = ranked_supports v fs ss } in
     let other : Problem = record { version = v'; dimension = d'; files = fs'; supports = ranked_supports v' fs' ss' } in made ≡ other
 alike o p q r = λ i. record { version = o i; dimension = p i; files = q i; supports = ranked_supports (o i) (q i) (r i) }
+
+pub take_whole : (s : List Point) (f : ℕ) → length s ≡ f → take f s ≡ s
+take_whole [] zero e = refl
+take_whole [] (suc f) e = refl
+take_whole (x ∷ s) zero e = absurd (omega (arith, e))
+take_whole (x ∷ s) (suc f) e = ap (λ l. x ∷ l) (take_whole s f (omega (arith, e)))
+
+pub whole_supports : (i : ℕ) (files : List ℕ) (supports : List (List Point)) → EachSupport i files supports (λ j f s. length s ≡ f) → first_points files supports ≡ supports
+whole_supports i [] [] e = refl
+whole_supports i [] (s ∷ supports) e = absurd e
+whole_supports i (f ∷ files) [] e = absurd e
+whole_supports i (f ∷ files) (s ∷ supports) e = ap₂ (λ x xs. x ∷ xs) (take_whole s f e.0) (whole_supports (suc i) files supports e.1)

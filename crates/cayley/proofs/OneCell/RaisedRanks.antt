@@ -3,12 +3,12 @@ use Rattle.std.proofs.Common.{◌≡◌, ◌⊎◌, ℕ, zero, suc, ◌+◌, Lis
 use Rattle.std.proofs.lemmas.Int.{ints}
 use Rattle.std.proofs.Math.IntN.{ℤ, pos, ◌+ℤ◌, ◌-ℤ◌, ◌*ℤ◌, *ℤ-zero}
 use Rattle.wide_int.proofs.Ring.{as_D, Ds, same_D}
-use Rattle.int_vectors.specs.Vectors.{IsZero, IsPositive, add, dot, at, at_place}
+use Rattle.int_vectors.specs.Vectors.{IsZero, IsPositive, add, dot, at, at_place, entries_at}
+use Rattle.int_vectors.proofs.Entries.{zero_from}
 use Rattle.cayley.specs.Times.{Time, time_zero}
 use Rattle.cayley.specs.Problems.{Point}
 use Rattle.cayley.specs.Normals.{Normal, mark, gap}
-use Rattle.cayley.proofs.Algebra.RowDependencies.{zero-at}
-use Rattle.cayley.proofs.Algebra.RowNormals.{entry, at-zero}
+use Rattle.cayley.proofs.Algebra.RowNormals.{at-zero}
 use Rattle.cayley.proofs.Algebra.ScaledInverse.{dot-zero}
 use Rattle.cayley.proofs.OneCell.CellLines.{base_of, height-at}
 use Rattle.cayley.proofs.Order.Lexicographic.{positive-same}
@@ -129,13 +129,13 @@ spread_normal gs v = record { entries = map (spread gs) v.entries; over = v.over
 
 -- the value of a point that rests, under a normal
 unfoldable pub resting_value : Normal → Point → ℕ → ℤ
-resting_value v p e = dot p.coordinates (entry e v.entries) +ℤ v.over *ℤ at (base_of p) e
+resting_value v p e = dot p.coordinates (entries_at e v.entries) +ℤ v.over *ℤ at (base_of p) e
 
 still_potential : (t : Time) (v : Normal) (p : Point) (e : ℕ) → p.speed ≡ pos 0 → potential t v p e ≡ t.over *ℤ resting_value v p e
 unfolding potential resting_value
 still_potential t v p e s =
-    ap (λ x. t.over *ℤ dot p.coordinates (entry e v.entries) +ℤ v.over *ℤ x) (height-at t p e ∙ (let k = ap (λ x. x *ℤ at t.entries e) s in omega (arith, ints, k)))
-    ∙ ring t.over v.over (dot p.coordinates (entry e v.entries)) (at (base_of p) e)
+    ap (λ x. t.over *ℤ dot p.coordinates (entries_at e v.entries) +ℤ v.over *ℤ x) (height-at t p e ∙ (let k = ap (λ x. x *ℤ at t.entries e) s in omega (arith, ints, k)))
+    ∙ ring t.over v.over (dot p.coordinates (entries_at e v.entries)) (at (base_of p) e)
   where
     ring : (q d x y : ℤ) → q *ℤ x +ℤ d *ℤ (q *ℤ y) ≡ q *ℤ (x +ℤ d *ℤ y)
     ring q d x y = rw (as_D q, as_D d, as_D x, as_D y) (simp Ds (same_D _ _ _ _ (omega arith)))
@@ -168,7 +168,7 @@ gap_spread gs v p q p' q' rp rq e = elim (source (0 ∷ gs) e) [
       omega (arith, ints, b, c, d, o)
 ]
   where
-    entries_here : (k : ℕ) → ((u : List ℤ) → at (spread gs u) e ≡ at u k) → (vs : List (List ℤ)) → entry e (map (spread gs) vs) ≡ entry k vs
+    entries_here : (k : ℕ) → ((u : List ℤ) → at (spread gs u) e ≡ at u k) → (vs : List (List ℤ)) → entries_at e (map (spread gs) vs) ≡ entries_at k vs
     entries_here k h [] = refl
     entries_here k h (x ∷ vs) = ap₂ (λ y l. y ∷ l) (h x) (entries_here k h vs)
 
@@ -178,7 +178,7 @@ gap_spread gs v p q p' q' rp rq e = elim (source (0 ∷ gs) e) [
     here : (k : ℕ) → ((u : List ℤ) → at (spread gs u) e ≡ at u k) → (p p' : Point) → IsRankedAs gs p' p → resting_value (spread_normal gs v) p' e ≡ resting_value v p k
     here k h p p' r = ap₂ (λ x y. x +ℤ v.over *ℤ y) (ap₂ dot r.coordinates (entries_here k h v.entries)) (base_is p p' r ∙ h (base_of p))
 
-    entries_nowhere : ((u : List ℤ) → at (spread gs u) e ≡ pos 0) → (vs : List (List ℤ)) → IsZero (entry e (map (spread gs) vs))
+    entries_nowhere : ((u : List ℤ) → at (spread gs u) e ≡ pos 0) → (vs : List (List ℤ)) → IsZero (entries_at e (map (spread gs) vs))
     entries_nowhere h [] = tt
     entries_nowhere h (x ∷ vs) = (h x, entries_nowhere h vs)
 
@@ -192,4 +192,4 @@ positive_spread gs v p q p' q' rp rq h =
 
 pub zero_spread : (gs : List ℕ) (v : Normal) (p q p' q' : Point) → IsRankedAs gs p' p → IsRankedAs gs q' q → IsZero (gap time_zero v p q) → IsZero (gap time_zero (spread_normal gs v) p' q')
 zero_spread gs v p q p' q' rp rq h =
-    zero-at _ (λ e. gap_spread gs v p q p' q' rp rq e ∙ at-zero _ e (zero-stretch (0 ∷ gs) (gap time_zero v p q) h))
+    zero_from _ (λ e. gap_spread gs v p q p' q' rp rq e ∙ at-zero _ e (zero-stretch (0 ∷ gs) (gap time_zero v p q) h))

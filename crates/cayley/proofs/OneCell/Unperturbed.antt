@@ -7,7 +7,7 @@ use Rattle.int_vectors.specs.Vectors.{Each, sub, dot}
 use Rattle.cayley.specs.Problems.{Point, Problem, IsProblem, origin, point_at, with_rank, unperturbed, HasSamePoints}
 use Rattle.cayley.specs.Cells.{Cell, EachPair, IsOf, IsIndependent}
 use Rattle.cayley.specs.Rows.{edge_row, edge_rows_from, edge_rows}
-use Rattle.cayley.specs.Dependencies.{support_at, IsFurtherAt}
+use Rattle.cayley.specs.Dependencies.{IsFurtherAt, nth_support}
 use Rattle.cayley.proofs.Lists.Each.{each_map, each_unmap}
 
 abbrev pub unranked : List Point → List Point
@@ -21,7 +21,7 @@ read_unranked (x ∷ s) (suc k) = read_unranked s k
 pub point_unranked : (s : List Point) (position : ℕ) → point_at (unranked s) position ≡ with_rank 0 (point_at s position)
 point_unranked s position = read_unranked s _
 
-pub support_unranked : (supports : List (List Point)) (j : ℕ) → support_at (map unranked supports) j ≡ unranked (support_at supports j)
+pub support_unranked : (supports : List (List Point)) (j : ℕ) → nth_support (map unranked supports) j ≡ unranked (nth_support supports j)
 support_unranked [] j = refl
 support_unranked (s ∷ supports) zero = refl
 support_unranked (s ∷ supports) (suc j) = support_unranked supports j
@@ -113,7 +113,7 @@ same_unperturbed p = ap (λ (ss : List (List Point)). record (unperturbed p) { s
 -- a further point of one is a further point of the other
 pub same_further : (p q : Problem) (cell : Cell) (j c : ℕ) → HasSamePoints p q → IsFurtherAt p cell j c → IsFurtherAt q cell j c
 same_further p q cell j c e f =
-    let m : length (support_at p.supports j) ≡ length (support_at q.supports j) =
-    sym (length-map (support_at p.supports j) (with_rank 0)) ∙ ap length (sym (support_unranked p.supports j) ∙ ap (λ ss. support_at ss j) (same_points p q e) ∙ support_unranked q.supports j)
-    ∙ length-map (support_at q.supports j) (with_rank 0) in
+    let m : length (nth_support p.supports j) ≡ length (nth_support q.supports j) =
+    sym (length-map (nth_support p.supports j) (with_rank 0)) ∙ ap length (sym (support_unranked p.supports j) ∙ ap (λ ss. nth_support ss j) (same_points p q e) ∙ support_unranked q.supports j)
+    ∙ length-map (nth_support q.supports j) (with_rank 0) in
     (f.0, subst (λ n. c ≤ n) m f.1, f.2, f.3)

@@ -5,12 +5,10 @@ use Rattle.std.proofs.Math.IntN.{ℤ, pos, ◌*ℤ◌, neg_ℤ, *ℤ-zero}
 use Rattle.wide_int.proofs.Ring.{as_D, Ds, same_D}
 use Rattle.wide_int.proofs.Order.{sign_cases, mul_pos_ℤ}
 use Rattle.int_vectors.specs.Vectors.{IsZero, IsPositive, scale, add, at}
+use Rattle.int_vectors.proofs.Entries.{not_zero}
 
 pub minus_one : (x : ℤ) → neg_ℤ (pos 1) *ℤ x ≡ neg_ℤ x
 minus_one x = omega (arith, ints)
-
-minus : List ℤ → List ℤ
-minus u = scale (neg_ℤ (pos 1)) u
 
 pub positive-add : (u v : List ℤ) → IsPositive u → IsPositive v → IsPositive (add u v)
 positive-add [] v p q = absurd p
@@ -35,17 +33,7 @@ pub zero-scale : (k : ℤ) (u : List ℤ) → IsZero u → IsZero (scale k u)
 zero-scale k [] z = tt
 zero-scale k (x ∷ u) z = (rw z.0 (*ℤ-zero k), zero-scale k u z.1)
 
-pub zero-add : (u v : List ℤ) → IsZero u → IsZero v → IsZero (add u v)
-zero-add [] v p q = q
-zero-add (x ∷ u) [] p q = p
-zero-add (x ∷ u) (y ∷ v) p q = (let e = p.0 in let f = q.0 in omega (arith, ints), zero-add u v p.1 q.1)
-
 -- exactly one of the three
-pub not_zero : (u : List ℤ) → IsPositive u → ¬ (IsZero u)
-not_zero [] p z = p
-not_zero (x ∷ u) (inl p) z = let e = z.0 in omega (arith, ints)
-not_zero (x ∷ u) (inr p) z = not_zero u p.1 z.1
-
 pub not_both : (u : List ℤ) → IsPositive u → ¬ (IsPositive (scale (neg_ℤ (pos 1)) u))
 not_both [] p q = p
 not_both (x ∷ u) (inl p) (inl q) = omega (arith, ints)

@@ -5,17 +5,18 @@ use Rattle.std.proofs.Math.IntN.{ℤ, pos, ◌+ℤ◌, ◌*ℤ◌, neg_ℤ, ℤ_
 use native.Mathlib.Decide.{ℕ_discrete, dec_le}
 use Rattle.wide_int.proofs.Ring.{as_D, Ds, same_D}
 use Rattle.wide_int.proofs.Order.{sign_cases}
-use Rattle.cayley.proofs.Algebra.ScaledInverse.{at-add, at-scale}
-use Rattle.cayley.proofs.Algebra.RowDependencies.{zero-at}
 use Rattle.cayley.proofs.Algebra.RowNormals.{at-zero}
-use Rattle.cayley.proofs.Order.Lexicographic.{positive-same, positive-scale, positive-unscale, not_zero, not_both, three, minus_one}
-use Rattle.cayley.proofs.Order.Lines.{Line, line_at, Before, AllPositive, SignAfter, just_after_from, just_after_to, before_trans, zero_of, before_zero, later, earlier}
+use Rattle.cayley.proofs.Order.Lexicographic.{positive-same, positive-scale, positive-unscale, not_both, three, minus_one}
+use Rattle.cayley.proofs.Order.Lines.{Line, line_at, Before, AllPositive, SignAfter, just_after_from, just_after_to, before_trans, zero_of, before_zero, later, earlier, middle}
 use Rattle.cayley.proofs.Searching.Listing.{Has}
-use Rattle.cayley.proofs.Order.Times.{Same, same_sym, later-self, time_cases, middle, less, turned, turned_one, turned_both, turned_back, sooner, same_before, before_same}
+use Rattle.cayley.proofs.Order.Times.{Same, same_sym, later-self, time_cases, less, turned, turned_one, turned_both, turned_back, sooner, same_before, before_same}
 use Rattle.int_vectors.specs.Vectors.{Each, IsZero, IsPositive, scale, at}
+use Rattle.int_vectors.proofs.Entries.{at-scale, at-add, zero_from, not_zero}
 use Rattle.cayley.specs.Times.{Time, time_zero, IsBefore}
 use Rattle.cayley.specs.Problems.{Point}
 use Rattle.cayley.specs.Cells.{Cell, EachPair, IsFurther}
+use Rattle.cayley.proofs.Algebra.RowDependencies.{each-left, each-right}
+use Rattle.cayley.proofs.Lists.Each.{each_append}
 
 pub record Lined (P : Time → Type 0) : Type 0 where
   pub list : List Line
@@ -23,25 +24,13 @@ pub record Lined (P : Time → Type 0) : Type 0 where
   pub from : (t : Time) → AllPositive list t → P t
 
 -- ---- made of smaller ones
-each-append : {A : Type 0} (P : A → Type 0) (xs ys : List A) → Each xs P → Each ys P → Each (xs ++ ys) P
-each-append P [] ys p q = q
-each-append P (x ∷ xs) ys p q = (p.0, each-append P xs ys p.1 q)
-
-each-left : {A : Type 0} (P : A → Type 0) (xs ys : List A) → Each (xs ++ ys) P → Each xs P
-each-left P [] ys p = tt
-each-left P (x ∷ xs) ys p = (p.0, each-left P xs ys p.1)
-
-each-right : {A : Type 0} (P : A → Type 0) (xs ys : List A) → Each (xs ++ ys) P → Each ys P
-each-right P [] ys p = p
-each-right P (x ∷ xs) ys p = each-right P xs ys p.1
-
 pub lined_always : (P : Time → Type 0) → ((t : Time) → P t) → Lined P
 lined_always P h = record { list = []; to = λ t q. tt; from = λ t q. h t }
 
 pub lined_both : (P Q : Time → Type 0) → Lined P → Lined Q → Lined (λ t. P t × Q t)
 lined_both P Q p q = record {
   list = p.list ++ q.list;
-  to = λ t h. each-append (λ l. IsPositive (line_at l t)) p.list q.list (p.to t h.0) (q.to t h.1);
+  to = λ t h. each_append (λ l. IsPositive (line_at l t)) p.list q.list (p.to t h.0) (q.to t h.1);
   from = λ t h. (p.from t (each-left (λ l. IsPositive (line_at l t)) p.list q.list h), q.from t (each-right (λ l. IsPositive (line_at l t)) p.list q.list h));
 }
 
@@ -164,10 +153,6 @@ turn-back l t e = simp (at-add, at-scale) (ring t.over (at l.start e) l.slope (a
     ring : (q a b x z : ℤ) → z ≡ neg_ℤ x → q *ℤ a +ℤ neg_ℤ b *ℤ x ≡ q *ℤ a +ℤ b *ℤ z
     ring q a b x z e = rw e (ring1 q a b x)
 
-turn_all : (ls : List Line) (t : Time) → AllPositive ls t → AllPositive (map turned_line ls) (turned t)
-turn_all [] t h = tt
-turn_all (l ∷ ls) t h = (positive-same (line_at l t) (line_at (turned_line l) (turned t)) (λ e. sym (turn-at l t e)) h.0, turn_all ls t h.1)
-
 turn_each : (ls : List Line) (t : Time) → AllPositive (map turned_line ls) (turned t) → AllPositive ls t
 turn_each [] t h = tt
 turn_each (l ∷ ls) t h = (positive-same (line_at (turned_line l) (turned t)) (line_at l t) (turn-at l t) h.0, turn_each ls t h.1)
@@ -179,7 +164,7 @@ SignBefore t l = IsPositive (line_at l t) ⊎ (IsZero (line_at l t) × (l.slope 
 pub sign_turned : (t : Time) (l : Line) → SignBefore t l → SignAfter (turned t) (turned_line l)
 unfolding turned_line
 sign_turned t l (inl h) = inl (positive-same _ _ (λ e. sym (turn-at l t e)) h)
-sign_turned t l (inr h) = let s = h.1 in inr (zero-at _ (λ e. turn-at l t e ∙ at-zero _ e h.0), omega (arith, ints, s))
+sign_turned t l (inr h) = let s = h.1 in inr (zero_from _ (λ e. turn-at l t e ∙ at-zero _ e h.0), omega (arith, ints, s))
 
 pub turn_far : (ls : List Line) (t : Time) → AllPositive (map turned_line ls) t → AllPositive ls (turned t)
 turn_far [] t h = tt
@@ -268,7 +253,7 @@ pub before_rise : (l : Line) (p : pos 0 <ℤ l.slope) (t : Time) → Before t (r
 before_rise l p t b = positive-same _ _ (rise-at l p t) b
 
 pub at_rise : (l : Line) (p : pos 0 <ℤ l.slope) (t : Time) → IsZero (line_at l t) → Same t (rise_of l p)
-at_rise l p t z = zero-at _ (λ e. rise-at l p t e ∙ at-scale (neg_ℤ (pos 1)) (line_at l t) e ∙ ap (λ x. neg_ℤ (pos 1) *ℤ x) (at-zero (line_at l t) e z) ∙ *ℤ-zero (neg_ℤ (pos 1)))
+at_rise l p t z = zero_from _ (λ e. rise-at l p t e ∙ at-scale (neg_ℤ (pos 1)) (line_at l t) e ∙ ap (λ x. neg_ℤ (pos 1) *ℤ x) (at-zero (line_at l t) e z) ∙ *ℤ-zero (neg_ℤ (pos 1)))
 
 sign_early : (l : Line) (u : Time) → ((x : Time) → Before x u → IsPositive (line_at l x)) → SignEarly l
 sign_early l u h =
@@ -403,7 +388,7 @@ dec_begins P p t = elim (dec_after P p t) [
 
 pub own_zero : (l : Line) (r : pos 0 <ℤ l.slope) → IsZero (line_at l (rise_of l r))
 own_zero l r =
-    zero-at (line_at l (rise_of l r)) (λ e.
+    zero_from (line_at l (rise_of l r)) (λ e.
     let k = sym (at-scale (neg_ℤ (pos 1)) (line_at l (rise_of l r)) e) ∙ sym (rise-at l r (rise_of l r) e) ∙ later-self (rise_of l r) e in
     turned_zero _ k)
   where

@@ -1,12 +1,12 @@
 -- lines over time: where they are positive, and alive just after a time
-use Rattle.std.proofs.Common.{◌≡◌, ◌⊎◌, ◌↔◌, ℕ, zero, suc, List, [], ◌∷◌, arith, refl, sym, ap, ◌∙◌, inl, inr, ◌<ℤ◌}
+use Rattle.std.proofs.Common.{◌≡◌, ◌⊎◌, ◌↔◌, ℕ, zero, suc, List, [], ◌∷◌, arith, sym, ap, ◌∙◌, inl, inr, ◌<ℤ◌}
 use Rattle.std.proofs.lemmas.Int.{ints}
 use Rattle.std.proofs.Math.IntN.{ℤ, pos, ◌+ℤ◌, ◌*ℤ◌, neg_ℤ}
 use Rattle.wide_int.proofs.Ring.{as_D, Ds, same_D, D-pos}
 use Rattle.wide_int.proofs.Order.{sign_cases, mul_pos_ℤ}
-use Rattle.cayley.proofs.Algebra.ScaledInverse.{at-add, at-scale}
 use Rattle.cayley.proofs.Order.Lexicographic.{positive-add, positive-add_zero, positive-scale, positive-unscale, positive-same, zero-scale, not_both, three, minus_one}
 use Rattle.int_vectors.specs.Vectors.{IsZero, IsPositive, scale, add, at, Each}
+use Rattle.int_vectors.proofs.Entries.{at-scale, at-add}
 use Rattle.cayley.specs.Times.{Time}
 
 pub record Line : Type 0 where
@@ -115,25 +115,7 @@ pub record Earlier (t u v : Time) : Type 0 where
   pub first : (x : Time) → Before x w → Before x u
   pub second : (x : Time) → Before x w → Before x v
 
-flip_zero : (u v : Time) → IsZero (later u v) → IsZero (later v u)
-flip_zero u v z = zero_at (later v u) (λ e. simp (at-add, at-scale) (ring u.over v.over (at u.entries e) (at v.entries e) ∙ ap (λ x. neg_ℤ (pos 1) *ℤ x) (simp (at-add, at-scale) at (at_zero (later u v) e z)) ∙ omega (arith, ints)))
-  where
-    zero_at : (bs : List ℤ) → ((k : ℕ) → at bs k ≡ pos 0) → IsZero bs
-    zero_at [] e = tt
-    zero_at (b ∷ bs) e = (e 0, zero_at bs (λ k. e (suc k)))
-
-    at_zero : (u : List ℤ) (k : ℕ) → IsZero u → at u k ≡ pos 0
-    at_zero [] k z = refl
-    at_zero (x ∷ u) zero z = z.0
-    at_zero (x ∷ u) (suc k) z = at_zero u k z.1
-
-    ring1 : (q r x y : ℤ) → r *ℤ x +ℤ neg_ℤ q *ℤ y ≡ neg_ℤ (q *ℤ y +ℤ neg_ℤ r *ℤ x)
-    ring1 q r x y = rw (as_D q, as_D r, as_D x, as_D y) (simp Ds (same_D _ _ _ _ (omega arith)))
-
-    ring : (q r x y : ℤ) → r *ℤ x +ℤ neg_ℤ q *ℤ y ≡ neg_ℤ (pos 1) *ℤ (q *ℤ y +ℤ neg_ℤ r *ℤ x)
-    ring q r x y = ring1 q r x y ∙ sym (minus_one (q *ℤ y +ℤ neg_ℤ r *ℤ x))
-
-flip_negative : (u v : Time) → IsPositive (scale (neg_ℤ (pos 1)) (later u v)) → Before v u
+pub flip_negative : (u v : Time) → IsPositive (scale (neg_ℤ (pos 1)) (later u v)) → Before v u
 flip_negative u v p = positive-same _ (later v u) (λ e. simp (at-add, at-scale) (ring u.over v.over (at u.entries e) (at v.entries e))) p
   where
     ring1 : (q r x y : ℤ) → neg_ℤ (q *ℤ y +ℤ neg_ℤ r *ℤ x) ≡ r *ℤ x +ℤ neg_ℤ q *ℤ y
@@ -170,12 +152,12 @@ just_after_from (l ∷ ls) t s =
     let w = earlier t one.until rest.until one.after rest.later_is in
     record { until = w.w; later_is = w.after; holds = λ u a b. (one.holds u a (w.first u b), rest.holds u a (w.second u b)) }
 
-record Middle (t u : Time) : Type 0 where
-  m : Time
-  after : Before t m
-  before : Before m u
+pub record Middle (t u : Time) : Type 0 where
+  pub m : Time
+  pub after : Before t m
+  pub before : Before m u
 
-middle : (t u : Time) → Before t u → Middle t u
+pub middle : (t u : Time) → Before t u → Middle t u
 middle t u p = record {
   m = m;
   after = positive-same (scale t.over (later t u)) (later t m) (λ e. simp (at-add, at-scale) (ring1 t.over u.over (at t.entries e) (at u.entries e))) (positive-scale t.over (later t u) t.positive p);

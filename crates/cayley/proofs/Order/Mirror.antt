@@ -1,4 +1,4 @@
--- time turned round: what holds just before a time
+-- time turned round: what holds just before a time, and cells that are alive then
 use Rattle.std.proofs.Common.{◌≡◌, ℕ, List, [], ◌∷◌, arith, refl, ap, ap₂, subst, inl}
 use Rattle.std.proofs.lemmas.Int.{ints}
 use Rattle.std.proofs.Math.IntN.{ℤ, pos, ◌*ℤ◌, neg_ℤ}

@@ -4,8 +4,7 @@ use Rattle.std.proofs.lemmas.Int.{ints}
 use Rattle.std.proofs.Math.IntN.{ℤ, pos, ◌*ℤ◌, *ℤ-zero}
 use Rattle.wide_int.proofs.Order.{zero_product}
 use Rattle.int_vectors.specs.Vectors.{IsZero, IsPositive, scale, at}
-use Rattle.cayley.proofs.Algebra.ScaledInverse.{at-scale}
-use Rattle.cayley.proofs.Algebra.RowDependencies.{zero-at}
+use Rattle.int_vectors.proofs.Entries.{at-scale, zero_from}
 use Rattle.cayley.proofs.Order.Lexicographic.{positive-same, positive-scale, positive-unscale}
 use Rattle.cayley.proofs.Algebra.RowNormals.{at-zero}
 
@@ -15,7 +14,7 @@ in_proportion u g k m pk pm e p =
 
 -- and are zero together
 pub zero_in_proportion : (u g : List ℤ) (k m : ℤ) → m ≢ pos 0 → ((e : ℕ) → k *ℤ at u e ≡ m *ℤ at g e) → IsZero u → IsZero g
-zero_in_proportion u g k m some e z = zero-at g (λ i.
+zero_in_proportion u g k m some e z = zero_from g (λ i.
     let f : m *ℤ at g i ≡ pos 0 = sym (e i) ∙ ap (λ x. k *ℤ x) (at-zero u i z) ∙ *ℤ-zero k in
     elim (zero_product m (at g i) f) [ inl h ↦ absurd (some h) | inr h ↦ h ])
 

@@ -1,4 +1,4 @@
--- what holds at all times just after a time
+-- what holds at all times just after a time, and cells that are alive then
 use Rattle.std.proofs.Common.{ℕ, zero, suc, ◌<◌, List, [], ◌∷◌, length, arith, sym, subst, inl}
 use native.Mathlib.Decide.{ℕ_discrete, dec_le}
 use Rattle.cayley.proofs.Order.Lines.{Line, line_at, Before, SignAfter, next, before_next, bound, earlier}

@@ -1,24 +1,24 @@
 -- the times at which none of finitely many lines is negative, their lower end and their upper end
 use Rattle.std.proofs.Common.{◌≡◌, ◌⊎◌, ℕ, zero, suc, ◌<◌, List, [], ◌∷◌, ◌++◌, map, arith, sym, subst, ◌∙◌, inl, inr, ◌<ℤ◌}
 use Rattle.std.proofs.lemmas.Int.{ints}
-use Rattle.std.proofs.Math.IntN.{ℤ, pos, ◌+ℤ◌, ◌*ℤ◌, neg_ℤ, *ℤ-zero}
+use Rattle.std.proofs.Math.IntN.{ℤ, pos, ◌+ℤ◌, ◌*ℤ◌, neg_ℤ}
 use native.Mathlib.Decide.{ℕ_discrete}
 use Rattle.wide_int.proofs.Ring.{as_D, Ds, same_D, D-pos}
 use Rattle.wide_int.proofs.Order.{sign_cases}
 use Rattle.int_vectors.specs.Vectors.{Each, IsZero, IsPositive, at, scale}
+use Rattle.int_vectors.proofs.Entries.{at-scale, at-add, zero_from, not_zero}
 use Rattle.cayley.specs.Times.{Time}
-use Rattle.cayley.proofs.Algebra.ScaledInverse.{at-add, at-scale}
-use Rattle.cayley.proofs.Algebra.RowDependencies.{zero-at}
 use Rattle.cayley.proofs.Algebra.RowNormals.{at-zero}
 use Rattle.cayley.proofs.Lists.Each.{each_append}
-use Rattle.cayley.proofs.Order.Lexicographic.{positive-same, not_zero, not_both, zero-scale}
-use Rattle.cayley.proofs.Order.Lines.{Line, line_at, later, Before, NotNegative, rises, level}
+use Rattle.cayley.proofs.Order.Lexicographic.{positive-same, not_both, zero-scale}
+use Rattle.cayley.proofs.Order.Lines.{Line, line_at, Before, NotNegative, rises, level}
 use Rattle.cayley.proofs.Order.Proportion.{zero_in_proportion}
 use Rattle.cayley.proofs.Order.Times.{Same, same_sym, time_cases, turned, turned_one, turned_both}
 use Rattle.cayley.proofs.Order.Mirror.{turned_is}
 use Rattle.cayley.proofs.Order.Lined.{rise_of, before_rise, own_zero, each_has, line_same, turned_line, turn-back}
-use Rattle.cayley.proofs.Life.Begins.{RisenBy, last_rise}
+use Rattle.cayley.proofs.Life.Begins.{RisenBy, last_rise, zero_there}
 use Rattle.cayley.proofs.Life.Crossings.{falls_back}
+use Rattle.cayley.proofs.Algebra.RowDependencies.{each-left, each-right}
 
 -- ---- one line
 -- a line that is level and zero is zero at all times
@@ -29,22 +29,6 @@ level_zero l t u s z =
   where
     ring : (q r b a x y : ℤ) → b ≡ pos 0 → r *ℤ (q *ℤ a +ℤ b *ℤ x) ≡ q *ℤ (r *ℤ a +ℤ b *ℤ y)
     ring q r b a x y z = rw z (rw (as_D q, as_D r, as_D a, as_D x, as_D y, D-pos 0) (simp Ds (same_D _ _ _ _ (omega arith))))
-
--- a line that is zero at a time is so however the time is written
-pub zero_still : (l : Line) (t u : Time) → Same t u → IsZero (line_at l t) → IsZero (line_at l u)
-zero_still l t u s z =
-    zero_in_proportion (line_at l t) (line_at l u) u.over t.over (λ e. let p = t.positive in omega (arith, ints, p, e)) (λ e.
-    let d = simp (at-add, at-scale) at (at-zero (later t u) e s) in
-    simp (at-add, at-scale) (ring t.over u.over (at l.start e) l.slope (at t.entries e) (at u.entries e) d)) z
-  where
-    ring1 : (q r a b x y : ℤ) → r *ℤ (q *ℤ a +ℤ b *ℤ x) +ℤ b *ℤ (q *ℤ y +ℤ neg_ℤ r *ℤ x) ≡ q *ℤ (r *ℤ a +ℤ b *ℤ y)
-    ring1 q r a b x y = rw (as_D q, as_D r, as_D a, as_D b, as_D x, as_D y) (simp Ds (same_D _ _ _ _ (omega arith)))
-
-    ring : (q r a b x y : ℤ) → q *ℤ y +ℤ neg_ℤ r *ℤ x ≡ pos 0 → r *ℤ (q *ℤ a +ℤ b *ℤ x) ≡ q *ℤ (r *ℤ a +ℤ b *ℤ y)
-    ring q r a b x y z =
-        let k : b *ℤ (q *ℤ y +ℤ neg_ℤ r *ℤ x) ≡ pos 0 = rw z (*ℤ-zero b) in
-        let s = ring1 q r a b x y in
-        omega (arith, ints, k, s)
 
 -- a line that is zero at two times is level
 pub two_zeros : (l : Line) (t u : Time) → Before t u → IsZero (line_at l t) → IsZero (line_at l u) → l.slope ≡ pos 0
@@ -60,11 +44,11 @@ never_both u (inr z) n = not_zero (scale (neg_ℤ (pos 1)) u) n (zero-scale (neg
 
 not_negative_same : (u v : List ℤ) → ((e : ℕ) → at u e ≡ at v e) → NotNegative u → NotNegative v
 not_negative_same u v e (inl p) = inl (positive-same u v e p)
-not_negative_same u v e (inr z) = inr (zero-at v (λ k. sym (e k) ∙ at-zero u k z))
+not_negative_same u v e (inr z) = inr (zero_from v (λ k. sym (e k) ∙ at-zero u k z))
 
 line_still : (l : Line) (t u : Time) → Same t u → NotNegative (line_at l t) → NotNegative (line_at l u)
 line_still l t u s (inl p) = inl (line_same l t u s p)
-line_still l t u s (inr z) = inr (zero_still l t u s z)
+line_still l t u s (inr z) = inr (zero_there l t u s z)
 
 level_still : (l : Line) (t u : Time) → l.slope ≡ pos 0 → NotNegative (line_at l t) → NotNegative (line_at l u)
 level_still l t u e (inl p) = inl (level l t u e p)
@@ -80,14 +64,6 @@ pub record Spanned (P : Time → Type 0) : Type 0 where
   pub to : (t : Time) → P t → Each list (λ l. NotNegative (line_at l t))
   pub from : (t : Time) → Each list (λ l. NotNegative (line_at l t)) → P t
 
-each_first : {A : Type 0} (P : A → Type 0) (xs ys : List A) → Each (xs ++ ys) P → Each xs P
-each_first P [] ys h = tt
-each_first P (x ∷ xs) ys h = (h.0, each_first P xs ys h.1)
-
-each_last : {A : Type 0} (P : A → Type 0) (xs ys : List A) → Each (xs ++ ys) P → Each ys P
-each_last P [] ys h = h
-each_last P (x ∷ xs) ys h = each_last P xs ys h.1
-
 pub spanned_always : (P : Time → Type 0) → ((t : Time) → P t) → Spanned P
 spanned_always P h = record { list = []; to = λ t q. tt; from = λ t q. h t }
 
@@ -98,7 +74,7 @@ spanned_both : (P Q : Time → Type 0) → Spanned P → Spanned Q → Spanned (
 spanned_both P Q p q = record {
   list = p.list ++ q.list;
   to = λ t h. each_append (λ l. NotNegative (line_at l t)) p.list q.list (p.to t h.0) (q.to t h.1);
-  from = λ t h. (p.from t (each_first (λ l. NotNegative (line_at l t)) p.list q.list h), q.from t (each_last (λ l. NotNegative (line_at l t)) p.list q.list h));
+  from = λ t h. (p.from t (each-left (λ l. NotNegative (line_at l t)) p.list q.list h), q.from t (each-right (λ l. NotNegative (line_at l t)) p.list q.list h));
 }
 
 pub spanned_below : (n : ℕ) (P : ℕ → Time → Type 0) → ((c : ℕ) → Spanned (P c)) → Spanned (λ t. (c : ℕ) → c < n → P c t)
@@ -137,7 +113,7 @@ line_at_rise l u t risen (inl b) h =
     sign_cases l.slope
     (λ n. inl (falls_back l u t n b h))
     (λ e. level_still l t u e h)
-    (λ r. elim (risen r) [ inl c ↦ inl (rises l (rise_of l r) u r c (inr (own_zero l r))) | inr s ↦ inr (zero_still l (rise_of l r) u s (own_zero l r)) ])
+    (λ r. elim (risen r) [ inl c ↦ inl (rises l (rise_of l r) u r c (inr (own_zero l r))) | inr s ↦ inr (zero_there l (rise_of l r) u s (own_zero l r)) ])
 
 each_at_rise : (ls : List Line) (u t : Time) → Each ls (RisenBy u) → Before u t ⊎ Same u t → Each ls (λ l. NotNegative (line_at l t)) → Each ls (λ l. NotNegative (line_at l u))
 each_at_rise [] u t r b h = tt

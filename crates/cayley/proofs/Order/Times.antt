@@ -1,15 +1,12 @@
 -- the order of times, and times turned around
-use Rattle.std.proofs.Common.{◌≡◌, ℕ, arith, sym, ap, ◌∙◌, inl, inr, ◌<ℤ◌}
-use Rattle.std.proofs.lemmas.Int.{ints}
+use Rattle.std.proofs.Common.{◌≡◌, ℕ, arith, sym, ap, ◌∙◌, inl, inr}
 use Rattle.std.proofs.Math.IntN.{ℤ, pos, ◌+ℤ◌, ◌*ℤ◌, neg_ℤ, *ℤ-zero}
 use Rattle.wide_int.proofs.Ring.{as_D, Ds, same_D, D-pos}
-use Rattle.wide_int.proofs.Order.{mul_pos_ℤ}
-use Rattle.cayley.proofs.Algebra.ScaledInverse.{at-add, at-scale}
-use Rattle.cayley.proofs.Algebra.RowDependencies.{zero-at}
 use Rattle.cayley.proofs.Algebra.RowNormals.{at-zero}
-use Rattle.cayley.proofs.Order.Lexicographic.{positive-scale, positive-same, not_zero, three, minus_one}
-use Rattle.cayley.proofs.Order.Lines.{later, Before, NotNegative, positive_mix, before_trans, next, before_next}
-use Rattle.int_vectors.specs.Vectors.{IsZero, IsPositive, scale, add, at}
+use Rattle.cayley.proofs.Order.Lexicographic.{positive-same, three, minus_one}
+use Rattle.cayley.proofs.Order.Lines.{later, Before, NotNegative, positive_mix, before_trans, next, before_next, flip_negative}
+use Rattle.int_vectors.specs.Vectors.{IsZero, scale, at}
+use Rattle.int_vectors.proofs.Entries.{at-scale, at-add, zero_from, not_zero}
 use Rattle.cayley.specs.Times.{Time}
 
 -- the same time, maybe written over another number
@@ -23,7 +20,7 @@ later-turn : (t u : Time) (e : ℕ) → at (scale (neg_ℤ (pos 1)) (later t u))
 later-turn t u e = simp (at-add, at-scale) (minus_one _ ∙ turn_ring t.over u.over (at t.entries e) (at u.entries e))
 
 pub same_sym : (t u : Time) → Same t u → Same u t
-same_sym t u z = zero-at (later u t) (λ e. sym (later-turn t u e) ∙ at-scale (neg_ℤ (pos 1)) (later t u) e ∙ ap (λ x. neg_ℤ (pos 1) *ℤ x) (at-zero (later t u) e z) ∙ *ℤ-zero (neg_ℤ (pos 1)))
+same_sym t u z = zero_from (later u t) (λ e. sym (later-turn t u e) ∙ at-scale (neg_ℤ (pos 1)) (later t u) e ∙ ap (λ x. neg_ℤ (pos 1) *ℤ x) (at-zero (later t u) e z) ∙ *ℤ-zero (neg_ℤ (pos 1)))
 
 pub later-self : (t : Time) (e : ℕ) → at (later t t) e ≡ pos 0
 later-self t e = simp (at-add, at-scale) (ring t.over (at t.entries e))
@@ -32,16 +29,13 @@ later-self t e = simp (at-add, at-scale) (ring t.over (at t.entries e))
     ring q x = rw (as_D q, as_D x, D-pos 0) (simp Ds (same_D _ _ _ _ (omega arith)))
 
 pub same_self : (t : Time) → Same t t
-same_self t = zero-at (later t t) (later-self t)
+same_self t = zero_from (later t t) (later-self t)
 
 pub never_before : (t : Time) → ¬ (Before t t)
 never_before t p = not_zero (later t t) p (same_self t)
 
-pub before_turn : (t u : Time) → IsPositive (scale (neg_ℤ (pos 1)) (later t u)) → Before u t
-before_turn t u p = positive-same _ (later u t) (later-turn t u) p
-
 pub time_cases : {P : Type 0} (t u : Time) → (Before t u → P) → (Same t u → P) → (Before u t → P) → P
-time_cases t u f g h = three (later t u) (λ n. h (before_turn t u n)) g f
+time_cases t u f g h = three (later t u) (λ n. h (flip_negative t u n)) g f
 
 trans_ring : (q r s x y z : ℤ) → r *ℤ (q *ℤ z +ℤ neg_ℤ s *ℤ x) ≡ q *ℤ (r *ℤ z +ℤ neg_ℤ s *ℤ y) +ℤ s *ℤ (q *ℤ y +ℤ neg_ℤ r *ℤ x)
 trans_ring q r s x y z = rw (as_D q, as_D r, as_D s, as_D x, as_D y, as_D z) (simp Ds (same_D _ _ _ _ (omega arith)))
@@ -63,30 +57,6 @@ same_trans t u v p q =
     (λ b. absurd (never_before t (before_same t u t (same_sym t u p) (before_same t v u (same_sym u v q) b))))
     (λ s. s)
     (λ b. absurd (never_before v (before_same v u v q (before_same v t u p b))))
-
-pub record Middle (t u : Time) : Type 0 where
-  pub m : Time
-  pub after : Before t m
-  pub before : Before m u
-
-pub middle : (t u : Time) → Before t u → Middle t u
-middle t u p = record {
-  m = m;
-  after = positive-same (scale t.over (later t u)) (later t m) (λ e. simp (at-add, at-scale) (ring1 t.over u.over (at t.entries e) (at u.entries e))) (positive-scale t.over (later t u) t.positive p);
-  before = positive-same (scale u.over (later t u)) (later m u) (λ e. simp (at-add, at-scale) (ring2 t.over u.over (at t.entries e) (at u.entries e))) (positive-scale u.over (later t u) u.positive p);
-}
-  where
-    two_pos : pos 0 <ℤ (t.over *ℤ u.over +ℤ t.over *ℤ u.over)
-    two_pos = let p = mul_pos_ℤ t.over u.over t.positive u.positive in omega (arith, ints)
-
-    m : Time
-    m = record { entries = add (scale u.over t.entries) (scale t.over u.entries); over = t.over *ℤ u.over +ℤ t.over *ℤ u.over; positive = two_pos }
-
-    ring1 : (q r x y : ℤ) → q *ℤ (q *ℤ y +ℤ neg_ℤ r *ℤ x) ≡ q *ℤ (r *ℤ x +ℤ q *ℤ y) +ℤ neg_ℤ (q *ℤ r +ℤ q *ℤ r) *ℤ x
-    ring1 q r x y = rw (as_D q, as_D r, as_D x, as_D y) (simp Ds (same_D _ _ _ _ (omega arith)))
-
-    ring2 : (q r x y : ℤ) → r *ℤ (q *ℤ y +ℤ neg_ℤ r *ℤ x) ≡ (q *ℤ r +ℤ q *ℤ r) *ℤ y +ℤ neg_ℤ r *ℤ (r *ℤ x +ℤ q *ℤ y)
-    ring2 q r x y = rw (as_D q, as_D r, as_D x, as_D y) (simp Ds (same_D _ _ _ _ (omega arith)))
 
 -- the less of two times
 pub record Less (u v : Time) : Type 0 where

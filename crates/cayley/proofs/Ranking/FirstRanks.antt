@@ -1,7 +1,6 @@
 -- the first rank of each support
-use Rattle.std.proofs.Common.{◌≡◌, ℕ, zero, suc, ◌+◌, ◌*◌, ◌<◌, ◌≤◌, ◌++◌, List, [], ◌∷◌, length, map, drop, arith, refl, sym, ap, ap₂, ◌∙◌}
+use Rattle.std.proofs.Common.{◌≡◌, ℕ, zero, suc, ◌+◌, ◌*◌, ◌<◌, ◌≤◌, List, [], ◌∷◌, length, map, arith, refl, sym, ap, ap₂, ◌∙◌}
 use Rattle.std.specs.Prelude.{slice_index_or}
-use Rattle.std.proofs.lemmas.List.{drop_more, drop_all}
 use Rattle.int_vectors.specs.Vectors.{Each}
 use Rattle.cayley.specs.declared.points.Support.{Support}
 use Rattle.cayley.specs.Problems.{Point, numbered, numbered_supports}
@@ -11,7 +10,7 @@ use Rattle.cayley.specs.Stored.{point}
 abbrev files_of : List Support → List ℕ
 files_of ss = map (λ (s : Support). s.file) ss
 
-abbrev points_of : List Support → List (List Point)
+abbrev pub points_of : List Support → List (List Point)
 points_of ss = map (λ (s : Support). map point s.points.items) ss
 
 pub length-firsts : (r : ℕ) (ss : List Support) → length (firsts_from r ss) ≡ length ss
@@ -38,24 +37,3 @@ firsts_few r (s ∷ ss) h (suc k) l =
     let n = firsts_few (r + ranks_of s) ss h.1 k (omega (arith, l)) in
     let m = h.0 in
     omega (arith, n, m)
-
--- one more first rank
-pub next_first : (whole made new : List ℕ) (r : ℕ) (ss : List Support) (k : ℕ) (s : Support) → s ≡ slice_index_or ss k s → k < length ss
-    → made ++ firsts_from r (drop k ss) ≡ whole → new ≡ made ++ r ∷ [] → new ++ firsts_from (r + ranks_of s) (drop (k + 1) ss) ≡ whole
-next_first whole made new r ss k s e l h n =
-    let d = ap (firsts_from r) (drop_more ss k s l) in
-    let q : firsts_from (r + ranks_of (slice_index_or ss k s)) (drop (k + 1) ss) ≡ firsts_from (r + ranks_of s) (drop (k + 1) ss) =
-    ap (λ (y : Support). firsts_from (r + ranks_of y) (drop (k + 1) ss)) (sym e) in
-    ap (λ (t : List ℕ). t ++ firsts_from (r + ranks_of s) (drop (k + 1) ss)) n
-    ∙ append_more made r (firsts_from (r + ranks_of s) (drop (k + 1) ss)) ∙ ap (λ (t : List ℕ). made ++ r ∷ t) (sym q) ∙ ap (λ (t : List ℕ). made ++ t) (sym d) ∙ h
-  where
-    append_more : (xs : List ℕ) (x : ℕ) (ys : List ℕ) → (xs ++ x ∷ []) ++ ys ≡ xs ++ (x ∷ ys)
-    append_more [] x ys = refl
-    append_more (z ∷ xs) x ys = ap (λ l. z ∷ l) (append_more xs x ys)
-
-pub last_first : (whole made : List ℕ) (r : ℕ) (ss : List Support) (k : ℕ) → length ss ≤ k → made ++ firsts_from r (drop k ss) ≡ whole → made ≡ whole
-last_first whole made r ss k l h = sym (end made) ∙ ap (λ (t : List ℕ). made ++ t) (sym (ap (firsts_from r) (drop_all k ss l))) ∙ h
-  where
-    end : (xs : List ℕ) → xs ++ [] ≡ xs
-    end [] = refl
-    end (x ∷ xs) = ap (λ l. x ∷ l) (end xs)

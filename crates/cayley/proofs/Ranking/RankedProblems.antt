@@ -137,8 +137,3 @@ module _ (v w : Version) (n : ℕ) (fs : List ℕ) (ss : List (List Point)) wher
 
   pub ranked_shape : HasProblemShape unmade → IsStill unmade → HasProblemShape ranked
   ranked_shape = still_shape n fs ss (ranked_supports w fs ss) same_ranked v w
-
--- in the version that it has, also where points move
-pub ranked_same : (v : Version) (n : ℕ) (fs : List ℕ) (ss : List (List Point)) → IsValidProblem (unmade v v n fs ss) → IsValidProblem (ranked v v n fs ss)
-ranked_same v n fs ss h = valid_by n fs ss (ranked_supports v fs ss) (same_ranked v v n fs ss) v v h
-    (same_shape n fs ss (ranked_supports v fs ss) (same_ranked v v n fs ss) v h.shape) (sym (ranked_twice v fs ss))

@@ -19,7 +19,7 @@ use Rattle.cayley.specs.Valid.{IsCornerCoordinate, IsValidProblem, support_at, f
 use Rattle.cayley.proofs.Lists.Each.{all_each, each_all, each_unmap, each_weaker, map_at, map_map, map_same, same_read}
 use Rattle.cayley.proofs.Lists.Supports.{few_points, stored_points, each_support_at}
 use Rattle.cayley.proofs.OneCell.Unperturbed.{unranked, point_unranked}
-use Rattle.cayley.proofs.Ranking.FirstRanks.{numbered_at, firsts_few, length-firsts}
+use Rattle.cayley.proofs.Ranking.FirstRanks.{numbered_at, firsts_few, length-firsts, points_of}
 use Rattle.cayley.proofs.Ranking.RankedFaults.{read_support, ranked_fault}
 use Rattle.cayley.proofs.Ranking.RankedProblems.{first_shape, valid_by, same_still, ranked_valid}
 use Rattle.cayley.proofs.Ranking.Unranked.{unranked_ranked}
@@ -27,9 +27,6 @@ use Rattle.cayley.proofs.Refusals.ProblemFaults.{stored_ranks}
 
 abbrev files_of : List Support → List ℕ
 files_of ss = map (λ (s : Support). s.file) ss
-
-abbrev points_of : List Support → List (List Point)
-points_of ss = map (λ (s : Support). map point s.points.items) ss
 
 unranked_points : (xs : List StoredPoint) → unranked (map point xs) ≡ map point xs
 unranked_points xs = map_map (with_rank 0) point xs

@@ -26,7 +26,7 @@ unranked_numbered i f position r (x ∷ xs) =
     either_unranked (is_start_corner i f position) x (with_rank 0 x) (with_rank r x) xs (numbered i f (suc position) r xs) (numbered i f (suc position) (suc r) xs) refl refl
     (unranked_numbered i f (suc position) r xs) (unranked_numbered i f (suc position) (suc r) xs)
 
-unranked_supports : (i r : ℕ) (fs : List ℕ) (ss : List (List Point)) → map unranked (numbered_supports i r fs ss) ≡ map unranked ss
+pub unranked_supports : (i r : ℕ) (fs : List ℕ) (ss : List (List Point)) → map unranked (numbered_supports i r fs ss) ≡ map unranked ss
 unranked_supports i r [] [] = refl
 unranked_supports i r (f ∷ fs) [] = refl
 unranked_supports i r [] (s ∷ ss) = ap₂ (λ x xs. x ∷ xs) (unranked_numbered i 0 1 r s) (unranked_supports (suc i) (r + ranks_in 0 s) [] ss)

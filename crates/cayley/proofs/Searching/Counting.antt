@@ -28,11 +28,6 @@ is_at_same : (c : Cell) → is_at c c ≡ 1
 unfolding is_at
 is_at_same c = one_same c c refl (dec_same_cell c c)
 
-some_at : (c x : Cell) (d : Dec (c ≡ x)) → 1 ≤ one_by c x d → c ≡ x
-unfolding one_by
-some_at c x (yes e) l = e
-some_at c x (no n) l = absurd (omega arith)
-
 none_at : (c x : Cell) → c ≢ x → (d : Dec (c ≡ x)) → one_by c x d ≡ 0
 unfolding one_by
 none_at c x n (yes e) = absurd (n e)
@@ -83,14 +78,6 @@ permutation_counts (x ∷ xs) ys h =
     omega (arith, a, b, d, e, f, g)) in
     subst (λ k. IsPermutation (x ∷ xs) k) (sym s.is)
     (IsPermutation-trans (x ∷ xs) (x ∷ (s.left ++ s.right)) (s.left ++ x ∷ s.right) (IsPermutation-cons x xs (s.left ++ s.right) r) (IsPermutation-sym (s.left ++ x ∷ s.right) (x ∷ (s.left ++ s.right)) (IsPermutation-middle s.left x s.right)))
-
--- what stands on both sides may go
-pub cancel : (xs ys zs : List Cell) → IsPermutation (xs ++ zs) (ys ++ zs) → IsPermutation xs ys
-cancel xs ys zs p = permutation_counts xs ys (λ c.
-    let e = count_permutation c (xs ++ zs) (ys ++ zs) p in
-    let a = count-append c xs zs in
-    let b = count-append c ys zs in
-    omega (arith, e, a, b))
 
 pub has_count : (c : Cell) (xs : List Cell) → Has c xs → 1 ≤ count c xs
 has_count c [] h = absurd h

@@ -8,8 +8,10 @@ use Rattle.cayley.specs.Problems.Version.{version1, version2}
 use Rattle.cayley.specs.Cells.{Cell, IsOf, IsIndependent}
 use Rattle.cayley.specs.Mixed.{IsMixedCell}
 use Rattle.cayley.proofs.Algebra.Kernel.{kernel}
-use Rattle.cayley.proofs.OneCell.CellNormals.{edges, kills_to}
-use Rattle.cayley.proofs.Life.Decisions.{long-edges, dec_alive}
+use Rattle.cayley.proofs.OneCell.CellNormals.{kills_to, length-edges}
+use Rattle.cayley.proofs.Life.Decisions.{dec_alive}
+use Rattle.cayley.specs.Rows.{edges}
+use Rattle.cayley.proofs.Algebra.Dependence.{length-map}
 
 -- n coordinates
 abbrev HasCoordinates : ℕ → Point → Type 0
@@ -56,17 +58,13 @@ all_first n [] supports h = tt
 all_first n (f ∷ files) [] h = tt
 all_first n (f ∷ files) (s ∷ supports) h = (each_take n f s h.0, all_first n files supports h.1)
 
-long_mapped : {A B : Type 0} (f : A → B) (xs : List A) → length (map f xs) ≡ length xs
-long_mapped f [] = refl
-long_mapped f (x ∷ xs) = ap suc (long_mapped f xs)
-
 long_numbered : (i r : ℕ) (files : List ℕ) (supports : List (List Point)) → length (numbered_supports i r files supports) ≡ length supports
 long_numbered i r files [] = refl
 long_numbered i r [] (s ∷ supports) = ap suc (long_numbered (suc i) (r + ranks_in 0 s) [] supports)
 long_numbered i r (f ∷ files) (s ∷ supports) = ap suc (long_numbered (suc i) (r + ranks_in f s) files supports)
 
 pub long_ranked : (version : Version) (files : List ℕ) (supports : List (List Point)) → length (ranked_supports version files supports) ≡ length supports
-long_ranked version1 files supports = long_mapped (map (with_rank 0)) supports
+long_ranked version1 files supports = length-map (map (with_rank 0)) supports
 long_ranked version2 files supports = long_numbered 1 1 files supports
 
 first_at_most : (files : List ℕ) (supports : List (List Point)) → length (first_points files supports) ≤ length supports
@@ -93,7 +91,7 @@ file_points_well p well e = record {
 -- with fewer supports than the dimension no cell is independent
 too_few : (q : Problem) (cell : Cell) → length q.supports < q.dimension → IsOf q cell → ¬ (IsIndependent q cell)
 too_few q cell l of ind =
-    let k = kernel q.dimension (edges q.supports cell) (let e = long-edges q.supports cell _ of in omega (arith, l, e)) in
+    let k = kernel q.dimension (edges q.supports cell) (let e = length-edges q.supports cell _ of in omega (arith, l, e)) in
     k.some (ind k.v k.long (kills_to q.supports cell k.v _ of k.kills))
 
 pub dec_mixed : (p : Problem) → IsProblem p → (cell : Cell) → Dec (IsMixedCell p cell)

@@ -8,16 +8,16 @@ abbrev pub Has : {A : Type 0} → A → List A → Type 0
 Has x [] = ⊥
 Has x (y ∷ ys) = (x ≡ y) ⊎ Has x ys
 
-has-left : {A : Type 0} (x : A) (xs ys : List A) → Has x xs → Has x (xs ++ ys)
+pub has-left : {A : Type 0} (x : A) (xs ys : List A) → Has x xs → Has x (xs ++ ys)
 has-left x [] ys h = absurd h
 has-left x (y ∷ xs) ys (inl e) = inl e
 has-left x (y ∷ xs) ys (inr h) = inr (has-left x xs ys h)
 
-has-right : {A : Type 0} (x : A) (xs ys : List A) → Has x ys → Has x (xs ++ ys)
+pub has-right : {A : Type 0} (x : A) (xs ys : List A) → Has x ys → Has x (xs ++ ys)
 has-right x [] ys h = h
 has-right x (y ∷ xs) ys h = inr (has-right x xs ys h)
 
-has-map : {A B : Type 0} (f : A → B) (x : A) (xs : List A) → Has x xs → Has (f x) (map f xs)
+pub has-map : {A B : Type 0} (f : A → B) (x : A) (xs : List A) → Has x xs → Has (f x) (map f xs)
 has-map f x [] h = absurd h
 has-map f x (y ∷ xs) (inl e) = inl (ap f e)
 has-map f x (y ∷ xs) (inr h) = inr (has-map f x xs h)
@@ -82,7 +82,7 @@ less_trans (a ∷ x) (b ∷ y) (c ∷ z) (inr p) (inr q) = inr (p.0 ∙ q.0, lat
     later i j k P Q R f (inr p) (inl q) = let e = p.0 in inl (omega arith)
     later i j k P Q R f (inr p) (inr q) = inr (p.0 ∙ q.0, f p.1 q.1)
 
-three_ways : {P : Type 0} (m n : ℕ) → (m < n → P) → (m ≡ n → P) → (n < m → P) → P
+pub three_ways : {P : Type 0} (m n : ℕ) → (m < n → P) → (m ≡ n → P) → (n < m → P) → P
 three_ways m n f g h = elim (dec_lt m n) [ yes p ↦ f p | no q ↦ elim (ℕ_discrete m n) [ yes e ↦ g e | no r ↦ h (omega arith) ] ]
 
 pub compare_cells : (x y : Cell) → IsLess x y ⊎ ((x ≡ y) ⊎ IsLess y x)

@@ -2,7 +2,7 @@
 use Rattle.std.proofs.Common.{◌≡◌, ◌≢◌, ◌⊎◌, ℕ, zero, suc, ◌<◌, List, [], ◌∷◌, ◌++◌, length, map, arith, refl, sym, ap, subst, inl, inr}
 use Rattle.std.specs.Prelude.{Contains, IsPermutation, slice_index_or, flat_map}
 use Rattle.std.proofs.lemmas.List.Sorted.{IsPermutation-refl, IsPermutation-sym, IsPermutation-trans, IsPermutation-cons, IsPermutation-middle}
-use Rattle.cayley.proofs.Searching.Listing.{Has, Sorted, less_trans}
+use Rattle.cayley.proofs.Searching.Listing.{Has, Sorted, less_trans, has-left, has-right, has-map}
 use Rattle.cayley.proofs.Searching.Parents.{less_irrefl}
 use Rattle.cayley.specs.Cells.{Cell, IsLess, IsSorted}
 
@@ -33,15 +33,6 @@ sorted_to (x ∷ []) s = tt
 sorted_to (x ∷ y ∷ xs) s = (s.0 y (inl refl), sorted_to (y ∷ xs) s.1)
 
 -- ---- members of joined lists
-pub has_left : {A : Type 0} (x : A) (xs ys : List A) → Has x xs → Has x (xs ++ ys)
-has_left x [] ys h = absurd h
-has_left x (y ∷ xs) ys (inl e) = inl e
-has_left x (y ∷ xs) ys (inr h) = inr (has_left x xs ys h)
-
-pub has_right : {A : Type 0} (x : A) (xs ys : List A) → Has x ys → Has x (xs ++ ys)
-has_right x [] ys h = h
-has_right x (y ∷ xs) ys h = inr (has_right x xs ys h)
-
 pub has_either : {A : Type 0} (x : A) (xs ys : List A) → Has x (xs ++ ys) → Has x xs ⊎ Has x ys
 has_either x [] ys h = inr h
 has_either x (y ∷ xs) ys (inl e) = inl (inl e)
@@ -49,8 +40,8 @@ has_either x (y ∷ xs) ys (inr h) = elim (has_either x xs ys h) [ inl k ↦ inl
 
 pub has_flat : {A B : Type 0} (f : A → List B) (x : A) (c : B) (xs : List A) → Has x xs → Has c (f x) → Has c (flat_map f xs)
 has_flat f x c [] h k = absurd h
-has_flat f x c (y ∷ xs) (inl e) k = has_left c (f y) (flat_map f xs) (subst (λ z. Has c (f z)) e k)
-has_flat f x c (y ∷ xs) (inr h) k = has_right c (f y) (flat_map f xs) (has_flat f x c xs h k)
+has_flat f x c (y ∷ xs) (inl e) k = has-left c (f y) (flat_map f xs) (subst (λ z. Has c (f z)) e k)
+has_flat f x c (y ∷ xs) (inr h) k = has-right c (f y) (flat_map f xs) (has_flat f x c xs h k)
 
 pub flat_has : {A B : Type 0} (f : A → List B) (c : B) (xs : List A) → Has c (flat_map f xs) → (x : A) × Has x xs × Has c (f x)
 flat_has f c [] h = absurd h
@@ -58,11 +49,6 @@ flat_has f c (y ∷ xs) h = elim (has_either c (f y) (flat_map f xs) h) [
   | inl k ↦ (y, inl refl, k)
   | inr k ↦ let r = flat_has f c xs k in (r.0, inr r.1, r.2)
 ]
-
-pub has_map : {A B : Type 0} (f : A → B) (x : A) (xs : List A) → Has x xs → Has (f x) (map f xs)
-has_map f x [] h = absurd h
-has_map f x (y ∷ xs) (inl e) = inl (ap f e)
-has_map f x (y ∷ xs) (inr h) = inr (has_map f x xs h)
 
 pub map_has : {A B : Type 0} (f : A → B) (c : B) (xs : List A) → Has c (map f xs) → (x : A) × Has x xs × (c ≡ f x)
 map_has f c [] h = absurd h
@@ -92,7 +78,7 @@ distinct_flat f key (x ∷ xs) d each apart =
     distinct_append (f x) (flat_map f xs) (each x (inl refl)) (distinct_flat f key xs d.1 (λ y h. each y (inr h)) (λ y z h k. apart y z (inr h) (inr k)))
     (λ c h k.
     let r = flat_has f c xs k in
-    apart x r.0 (inl refl) (inr r.1) (λ e. d.0 (subst (λ z. Has z (map key xs)) (sym e) (has_map key r.0 xs r.1))) c h r.2)
+    apart x r.0 (inl refl) (inr r.1) (λ e. d.0 (subst (λ z. Has z (map key xs)) (sym e) (has-map key r.0 xs r.1))) c h r.2)
 
 pub record Split {A : Type 0} (x : A) (xs : List A) : Type 0 where
   pub left : List A
@@ -105,19 +91,19 @@ split x (y ∷ xs) (inl e) = record { left = []; right = xs; is = ap (λ z. z �
 split x (y ∷ xs) (inr h) = let s = split x xs h in record { left = y ∷ s.left; right = s.right; is = ap (λ l. y ∷ l) s.is }
 
 has_over : {A : Type 0} (c x : A) (us vs : List A) → Has c (us ++ vs) → Has c (us ++ x ∷ vs)
-has_over c x us vs h = elim (has_either c us vs h) [ inl k ↦ has_left c us (x ∷ vs) k | inr k ↦ has_right c us (x ∷ vs) (inr k) ]
+has_over c x us vs h = elim (has_either c us vs h) [ inl k ↦ has-left c us (x ∷ vs) k | inr k ↦ has-right c us (x ∷ vs) (inr k) ]
 
 has_under : {A : Type 0} (c x : A) (us vs : List A) → c ≢ x → Has c (us ++ x ∷ vs) → Has c (us ++ vs)
 has_under c x us vs n h = elim (has_either c us (x ∷ vs) h) [
-  | inl k ↦ has_left c us vs k
-  | inr k ↦ elim k [ inl e ↦ absurd (n e) | inr m ↦ has_right c us vs m ]
+  | inl k ↦ has-left c us vs k
+  | inr k ↦ elim k [ inl e ↦ absurd (n e) | inr m ↦ has-right c us vs m ]
 ]
 
 distinct_less : {A : Type 0} (x : A) (us vs : List A) → Distinct (us ++ x ∷ vs) → ¬ (Has x (us ++ vs)) × Distinct (us ++ vs)
 distinct_less x [] vs d = d
 distinct_less x (u ∷ us) vs d =
     let r = distinct_less x us vs d.1 in (
-      (λ h. elim h [ inl e ↦ d.0 (subst (λ z. Has z (us ++ x ∷ vs)) e (has_right x us (x ∷ vs) (inl refl))) | inr k ↦ r.0 k ]),
+      (λ h. elim h [ inl e ↦ d.0 (subst (λ z. Has z (us ++ x ∷ vs)) e (has-right x us (x ∷ vs) (inl refl))) | inr k ↦ r.0 k ]),
       ((λ h. d.0 (has_over u x us vs h)), r.1),
     )
 

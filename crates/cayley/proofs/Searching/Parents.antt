@@ -189,15 +189,6 @@ parent_exists p sigma tau well t b h =
       | inr none ↦ absurd (none sigma h)
     ]
 
-pub dec_parent : (p : Problem) (sigma tau : Cell) → IsProblem p → Dec (IsParent p sigma tau)
-dec_parent p sigma tau well = elim (find_parent p tau well) [
-  | inr none ↦ no (none sigma)
-  | inl h ↦ elim (dec_same_cell h.0 sigma) [
-    | yes e ↦ yes (subst (λ c. IsParent p c tau) e h.1)
-    | no n ↦ no (λ k. n (one_parent p h.0 sigma tau well h.1 k))
-  ]
-]
-
 -- a parent begins earlier, or is alive at all early times and begins nowhere
 pub parent_earlier : (p : Problem) (sigma tau : Cell) (s t : Time) → IsProblem p → IsParent p sigma tau → BeginsAt p tau t → BeginsAt p sigma s → IsBefore s t
 parent_earlier p sigma tau s t well h b k =

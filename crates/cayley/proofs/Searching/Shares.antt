@@ -9,11 +9,11 @@ use Rattle.std.proofs.Math.IntN.{neg_ℤ}
 use Rattle.wide_int.proofs.Order.{sign_cases}
 use Rattle.cayley.proofs.Order.Times.{Same, same_self}
 use Rattle.cayley.proofs.Order.Lined.{begins_same}
-use Rattle.cayley.proofs.Searching.Listing.{Has, Sorted, listed, all_cells, has-cell, less_trans}
+use Rattle.cayley.proofs.Searching.Listing.{Has, Sorted, listed, all_cells, has-cell, less_trans, has-left, has-right, has-map}
 use Rattle.cayley.proofs.Life.Decisions.{lined_cell, dec_alive_early, dec_begins_at, alive_early, alive_after}
 use Rattle.cayley.proofs.Searching.Parents.{less_irrefl, less_apart, one_parent}
 use Rattle.cayley.proofs.Searching.Chains.{dec_chain, chain_of, chain_out, chain_trans, chain_linear, chain_apart}
-use Rattle.cayley.proofs.Searching.Members.{has_contains, contains_has, sorted_from, sorted_to, has_left, has_right, has_either, has_flat, flat_has, has_map, map_has, Distinct, sorted_distinct, distinct_append, distinct_flat, same_members}
+use Rattle.cayley.proofs.Searching.Members.{has_contains, contains_has, sorted_from, sorted_to, has_either, has_flat, flat_has, map_has, Distinct, sorted_distinct, distinct_append, distinct_flat, same_members}
 use Rattle.cayley.specs.Problems.{Problem, IsProblem}
 use Rattle.cayley.specs.Times.{Time}
 use Rattle.cayley.specs.Cells.{Cell, IsOf, IsListOf}
@@ -45,7 +45,7 @@ dec_begins_as p well cell (at_time entries over) =
 pub dec_true_branch : (p : Problem) → IsProblem p → (b : Branch) → Dec (IsTrueBranch p b)
 dec_true_branch p well b = dec_begins_as p well b.cell b.begin
 
-begins_of : (p : Problem) (cell : Cell) (begin : Begin) → BeginsAs p cell begin → IsOf p cell
+pub begins_of : (p : Problem) (cell : Cell) (begin : Begin) → BeginsAs p cell begin → IsOf p cell
 begins_of p cell at_start h = (alive_early p cell h).1.0
 begins_of p cell (at_time entries over) h = (alive_after p cell h.0 h.3.0).1.0
 
@@ -124,7 +124,7 @@ module _ (p : Problem) (well : IsProblem p) (b : Branch) (is : IsTrueBranch p b)
       each_has (y ∷ ks) e (inr h) = each_has ks e.1 h
 
   pub child_parent : (k : Branch) → Has k kids → IsParent p b.cell k.cell
-  child_parent k h = list_has (λ c. IsParent p b.cell c) (map (λ (k : Branch). k.cell) kids) children.1 k.cell (has_map (λ (k : Branch). k.cell) k kids h)
+  child_parent k h = list_has (λ c. IsParent p b.cell c) (map (λ (k : Branch). k.cell) kids) children.1 k.cell (has-map (λ (k : Branch). k.cell) k kids h)
 
   -- a chain ends at the branch's cell or goes through a child
   through : (c : Cell) → InChain p b.cell c → (b.cell ≡ c) ⊎ ((k : Branch) × Has k kids × InChain p k.cell c)
@@ -182,8 +182,8 @@ module _ (p : Problem) (well : IsProblem p) (b : Branch) (is : IsTrueBranch p b)
         (λ c h.
         let s = share_has b c h in
         elim (through c s.2) [
-          | inl e ↦ has_left c own (flat_map share kids) (subst (λ x. Has x own) e (has_own (subst Wanted (sym e) s.1)))
-          | inr r ↦ has_right c own (flat_map share kids) (has_flat share r.0 c kids r.1 (has_list (InShareOf p Wanted r.0) (share r.0) (gives r.0) c (child_true r.0 r.1, s.1, r.2)))
+          | inl e ↦ has-left c own (flat_map share kids) (subst (λ x. Has x own) e (has_own (subst Wanted (sym e) s.1)))
+          | inr r ↦ has-right c own (flat_map share kids) (has_flat share r.0 c kids r.1 (has_list (InShareOf p Wanted r.0) (share r.0) (gives r.0) c (child_true r.0 r.1, s.1, r.2)))
         ])
         (λ c h. has_list (InShareOf p Wanted b) (share b) (gives b) c (elim (has_either c own (flat_map share kids) h) [
           | inl k ↦ let o = own_has c k in (is, subst Wanted (sym o.0) o.1, subst (λ x. InChain p b.cell x) (sym o.0) here)

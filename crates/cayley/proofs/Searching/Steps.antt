@@ -1,5 +1,5 @@
 -- a loop over a stack of branches: what was found and the shares of what is left
-use Rattle.std.proofs.Common.{min, ◌≡◌, ℕ, zero, suc, ◌+◌, ◌<◌, ◌≤◌, List, [], ◌∷◌, ◌++◌, length, map, arith, refl, sym, ap, ap₂, subst, ◌∙◌, inl, inr, append_assoc, append-nil}
+use Rattle.std.proofs.Common.{min, ◌≡◌, ℕ, zero, suc, ◌+◌, ◌<◌, ◌≤◌, List, [], ◌∷◌, ◌++◌, length, arith, refl, sym, ap, ap₂, subst, ◌∙◌, inl, inr, append_assoc, append-nil}
 use Rattle.std.specs.Prelude.{IsPermutation, flat_map, sum_by}
 use Rattle.std.proofs.lemmas.List.Sums.{sum_by-cons, sum_by-append}
 use Rattle.std.proofs.lemmas.Grind.{flat_map-append}
@@ -7,8 +7,8 @@ use Rattle.std.proofs.lemmas.List.Sorted.{IsPermutation-refl, IsPermutation-tran
 use Rattle.cayley.proofs.Searching.Listing.{Has}
 use Rattle.cayley.proofs.Life.Decisions.{dec_of}
 use Rattle.cayley.proofs.Searching.Chains.{chain_trans}
-use Rattle.cayley.proofs.Searching.Shares.{dec_true_branch, a_share, a_size, no_share, share_step, size_step, child_true, true_of, has_list, list_has}
-use Rattle.cayley.proofs.Searching.Members.{has_contains, has_left, has_right, has_either, has_map}
+use Rattle.cayley.proofs.Searching.Shares.{dec_true_branch, a_share, a_size, no_share, share_step, size_step, child_true, true_of, has_list}
+use Rattle.cayley.proofs.Searching.Members.{has_contains}
 use Rattle.cayley.specs.Problems.{Problem, IsProblem}
 use Rattle.cayley.specs.Cells.{Cell, IsOf}
 use Rattle.cayley.specs.Parents.{IsParent}
@@ -197,27 +197,9 @@ module _ (p : Problem) (well : IsProblem p) (size : Branch → ℕ) (gives : Giv
   drop_falls = subst (λ l. sum_by (weight size) rest < sum_by (weight size) l) (sym popped) (falls_drop p well size gives rest b)
 
 -- ---- all that is left is led by the given branches
-each_in : {A : Type 0} (P : A → Type 0) (xs : List A) → ((x : A) → Has x xs → P x) → Each xs P
+pub each_in : {A : Type 0} (P : A → Type 0) (xs : List A) → ((x : A) → Has x xs → P x) → Each xs P
 each_in P [] f = tt
 each_in P (x ∷ xs) f = (f x (inl refl), each_in P xs (λ y h. f y (inr h)))
-
-in_each : {A : Type 0} (P : A → Type 0) (xs : List A) (x : A) → Each xs P → Has x xs → P x
-in_each P [] x e h = absurd h
-in_each P (y ∷ xs) x e (inl q) = subst P (sym q) e.0
-in_each P (y ∷ xs) x e (inr h) = in_each P xs x e.1 h
-
-pub led_all : (p : Problem) (given : List Branch) → Each given (IsLed p given)
-led_all p given = each_in (IsLed p given) given (λ b h. led_given p given b h)
-
-pub led_rest : (p : Problem) (given left rest : List Branch) (b : Branch) → left ≡ rest ++ b ∷ [] → Each left (IsLed p given) → Each rest (IsLed p given)
-led_rest p given left rest b e l = each_in (IsLed p given) rest (λ x h. in_each (IsLed p given) left x l (subst (λ k. Has x k) (sym e) (has_left x rest (b ∷ []) h)))
-
-pub led_kids : (p : Problem) (given left rest : List Branch) (b : Branch) (kids : List Branch) → left ≡ rest ++ b ∷ [] → IsChildren p b.cell kids → Each left (IsLed p given) → Each (rest ++ kids) (IsLed p given)
-led_kids p given left rest b kids e children l = each_in (IsLed p given) (rest ++ kids) (λ x h. elim (has_either x rest kids h) [
-  | inl k ↦ in_each (IsLed p given) left x l (subst (λ m. Has x m) (sym e) (has_left x rest (b ∷ []) k))
-  | inr k ↦ led_child p given b x (list_has (λ c. IsParent p b.cell c) (map (λ (k : Branch). k.cell) kids) children.1 x.cell (has_map (λ (k : Branch). k.cell) x kids k))
-      (in_each (IsLed p given) left b l (subst (λ m. Has b m) (sym e) (has_right b rest (b ∷ []) (inl refl))))
-])
 
 -- ---- the count, which stands at its last value
 abbrev pub Counts : (Branch → ℕ) → ℕ → List Branch → ℕ → List Branch → Type 0
@@ -260,9 +242,3 @@ counts_begin cost top given = ap (λ n. min n top) (zero_left (sum_by cost given
 
 pub counts_end : (cost : Branch → ℕ) (top : ℕ) (given left : List Branch) (solves : ℕ) → left ≡ [] → solves ≤ top → Counts cost top given solves left → solves ≡ min (sum_by cost given) top
 counts_end cost top given left solves e l c = let z = ap (sum_by cost) e in omega (arith, z, l, c)
-
-pub solved_top : (p : Problem) (top : ℕ) (b : Branch) (old new : ℕ) → Solved p top b old new → old ≤ top → new ≤ top
-solved_top p top b old new s l = elim (dec_of p b.cell) [
-  | yes of ↦ let e = s.0 of in omega (arith, e)
-  | no m ↦ let e = s.1 m in omega (arith, e, l)
-]

@@ -1,21 +1,14 @@
 -- a branch whose cell isn't of the problem or doesn't begin where it says has nothing
 use Rattle.std.proofs.Common.{inl, inr}
 use Rattle.cayley.specs.Problems.{Problem}
-use Rattle.cayley.specs.Cells.{Cell, IsOf}
-use Rattle.cayley.specs.Lives.{Begin, BeginsAs}
-use Rattle.cayley.specs.Lives.Begin.{at_start, at_time}
 use Rattle.cayley.specs.Shares.{Branch, IsTrueBranch}
 use Rattle.cayley.specs.Strangers.{IsStranger, StrangerLaw}
-use Rattle.cayley.proofs.Life.Decisions.{alive_after, alive_early}
 use Rattle.cayley.proofs.Life.LifeLaws.{one_share_law}
+use Rattle.cayley.proofs.Searching.Shares.{begins_of}
 
 -- what begins is of the problem
-pub begun_of : (p : Problem) (cell : Cell) (begin : Begin) → BeginsAs p cell begin → IsOf p cell
-begun_of p cell at_start h = (alive_early p cell h).1.0
-begun_of p cell (at_time entries over) h = (alive_after p cell h.0 h.3.0).1.0
-
 pub not_true : (p : Problem) (b : Branch) → IsStranger p b → ¬ (IsTrueBranch p b)
-not_true p b (inl n) h = n (begun_of p b.cell b.begin h)
+not_true p b (inl n) h = n (begins_of p b.cell b.begin h)
 not_true p b (inr n) h = n h
 
 pub stranger_law : StrangerLaw

@@ -10,8 +10,8 @@ use Rattle.cayley.specs.Files.{FilePoint, File}
 use Rattle.cayley.specs.Paths.{path, start_cell}
 use Rattle.cayley.specs.Cells.{IsIndependent, IsFurther}
 use Rattle.cayley.specs.Normals.{Normal, IsLevel}
-use Rattle.cayley.specs.Dependencies.{support_at}
 use Rattle.cayley.specs.Ties.{IsTie, IsTieFree}
+use Rattle.cayley.specs.Dependencies.{nth_support}
 
 abbrev file_point : ℤ → FilePoint
 file_point x = record { coordinates = x ∷ []; height = pos 7 }
@@ -34,25 +34,25 @@ seven = record { entries = pos 7 ∷ []; over = pos 1; positive = record { lt = 
 abbrev pub flat : Normal
 flat = record { entries = (pos 0 ∷ []) ∷ []; over = pos 1; positive = record { lt = tt } }
 
-independent_by : (a b : ℕ) → ((x : ℤ) → dot (sub (point_at (support_at level_path.supports 0) b).coordinates (point_at (support_at level_path.supports 0) a).coordinates) (x ∷ []) ≡ pos 0 → x ≡ pos 0) → IsIndependent level_path ((a, b) ∷ [])
+independent_by : (a b : ℕ) → ((x : ℤ) → dot (sub (point_at (nth_support level_path.supports 0) b).coordinates (point_at (nth_support level_path.supports 0) a).coordinates) (x ∷ []) ≡ pos 0 → x ≡ pos 0) → IsIndependent level_path ((a, b) ∷ [])
 independent_by a b f [] l e = absurd (omega (arith, l))
 independent_by a b f (x ∷ []) l e = (f x e.0, tt)
 independent_by a b f (x ∷ y ∷ v) l e = absurd (omega (arith, l))
 
 -- at time 7 every point is level at the normal 0
-all_level : (a c : ℕ) → 1 ≤ c → c ≤ 4 → (a ≡ 1) ⊎ (a ≡ 3) → IsLevel seven flat (support_at level_path.supports 0) a c
+all_level : (a c : ℕ) → 1 ≤ c → c ≤ 4 → (a ≡ 1) ⊎ (a ≡ 3) → IsLevel seven flat (nth_support level_path.supports 0) a c
 all_level a zero p q e = absurd (omega (arith, p))
-all_level a (suc zero) p q (inl e) = subst (λ k. IsLevel seven flat (support_at level_path.supports 0) k 1) (sym e) (refl, tt)
-all_level a (suc zero) p q (inr e) = subst (λ k. IsLevel seven flat (support_at level_path.supports 0) k 1) (sym e) (refl, tt)
-all_level a (suc (suc zero)) p q (inl e) = subst (λ k. IsLevel seven flat (support_at level_path.supports 0) k 2) (sym e) (refl, tt)
-all_level a (suc (suc zero)) p q (inr e) = subst (λ k. IsLevel seven flat (support_at level_path.supports 0) k 2) (sym e) (refl, tt)
-all_level a (suc (suc (suc zero))) p q (inl e) = subst (λ k. IsLevel seven flat (support_at level_path.supports 0) k 3) (sym e) (refl, tt)
-all_level a (suc (suc (suc zero))) p q (inr e) = subst (λ k. IsLevel seven flat (support_at level_path.supports 0) k 3) (sym e) (refl, tt)
-all_level a (suc (suc (suc (suc zero)))) p q (inl e) = subst (λ k. IsLevel seven flat (support_at level_path.supports 0) k 4) (sym e) (refl, tt)
-all_level a (suc (suc (suc (suc zero)))) p q (inr e) = subst (λ k. IsLevel seven flat (support_at level_path.supports 0) k 4) (sym e) (refl, tt)
+all_level a (suc zero) p q (inl e) = subst (λ k. IsLevel seven flat (nth_support level_path.supports 0) k 1) (sym e) (refl, tt)
+all_level a (suc zero) p q (inr e) = subst (λ k. IsLevel seven flat (nth_support level_path.supports 0) k 1) (sym e) (refl, tt)
+all_level a (suc (suc zero)) p q (inl e) = subst (λ k. IsLevel seven flat (nth_support level_path.supports 0) k 2) (sym e) (refl, tt)
+all_level a (suc (suc zero)) p q (inr e) = subst (λ k. IsLevel seven flat (nth_support level_path.supports 0) k 2) (sym e) (refl, tt)
+all_level a (suc (suc (suc zero))) p q (inl e) = subst (λ k. IsLevel seven flat (nth_support level_path.supports 0) k 3) (sym e) (refl, tt)
+all_level a (suc (suc (suc zero))) p q (inr e) = subst (λ k. IsLevel seven flat (nth_support level_path.supports 0) k 3) (sym e) (refl, tt)
+all_level a (suc (suc (suc (suc zero)))) p q (inl e) = subst (λ k. IsLevel seven flat (nth_support level_path.supports 0) k 4) (sym e) (refl, tt)
+all_level a (suc (suc (suc (suc zero)))) p q (inr e) = subst (λ k. IsLevel seven flat (nth_support level_path.supports 0) k 4) (sym e) (refl, tt)
 all_level a (suc (suc (suc (suc (suc c))))) p q e = absurd (omega (arith, q))
 
-further : (a b c : ℕ) → 1 ≤ c → c ≤ 4 → c ≢ a → c ≢ b → IsFurther (support_at level_path.supports 0) a b c
+further : (a b c : ℕ) → 1 ≤ c → c ≤ 4 → c ≢ a → c ≢ b → IsFurther (nth_support level_path.supports 0) a b c
 further a b c p q n i = (p, q, n, i)
 
 -- the start cell with the two file points, where a walk meets it

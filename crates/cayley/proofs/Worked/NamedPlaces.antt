@@ -7,7 +7,7 @@ use Rattle.cayley.specs.Times.{Time, time_zero}
 use Rattle.cayley.specs.Problems.{Point, IsProblem, point_at}
 use Rattle.cayley.specs.Cells.{Cell, IsFurther}
 use Rattle.cayley.specs.Normals.{Normal, IsNormal, IsAbove, IsLevel}
-use Rattle.cayley.specs.Dependencies.{support_at, pair_at, IsFurtherAt}
+use Rattle.cayley.specs.Dependencies.{pair_at, IsFurtherAt, nth_support}
 use Rattle.cayley.specs.StoredTies.{Spot, IsEarlier, IsFurtherSpot, IsAlwaysLevel, ShowsTie}
 use Rattle.cayley.specs.NamedTies.{InSpan, IsLowerEnd, IsUpperEnd, IsLevelThen, AreFirstTwo, IsLowerTie, IsNamedTie}
 use Rattle.cayley.proofs.Order.Lines.{Line, line_at, NotNegative}
@@ -22,26 +22,26 @@ level_well : IsProblem level_path
 level_well = record { supports = refl; points = ((refl, (refl, (refl, (refl, tt)))), tt) }
 
 abbrev at_position : ℕ → Point
-at_position c = point_at (support_at level_path.supports 0) c
+at_position c = point_at (nth_support level_path.supports 0) c
 
 -- v = 0
 abbrev at_rest : Moving
 at_rest = record { den = pos 1; positive = record { lt = tt }; starts = pos 0 ∷ []; slopes = pos 0 ∷ []; long = refl }
 
 -- every point is of support 1
-only_place : (j c : ℕ) → 1 ≤ c → c ≤ length (support_at level_path.supports j) → j ≡ 0
+only_place : (j c : ℕ) → 1 ≤ c → c ≤ length (nth_support level_path.supports j) → j ≡ 0
 only_place zero c p q = refl
 only_place (suc j) c p q = absurd (omega (arith, p, q))
 
 one_support : (cell : Cell) (x : Spot) → IsFurtherSpot level_path cell x → x.0 ≡ 1
 one_support cell x f = let e = only_place (x.0 - 1) x.1 f.1.0 f.1.1 in let a = f.0 in omega (arith, e, a)
 
-further_one : (cell : Cell) (x : Spot) → IsFurtherSpot level_path cell x → IsFurther (support_at level_path.supports 0) (pair_at cell 0).0 (pair_at cell 0).1 x.1
+further_one : (cell : Cell) (x : Spot) → IsFurtherSpot level_path cell x → IsFurther (nth_support level_path.supports 0) (pair_at cell 0).0 (pair_at cell 0).1 x.1
 further_one cell x f = subst (λ k. IsFurtherAt level_path cell k x.1) (only_place (x.0 - 1) x.1 f.1.0 f.1.1) f.1
 
-level_one : (cell : Cell) (t : Time) (v : Normal) (x : Spot) → IsFurtherSpot level_path cell x → IsLevel t v (support_at level_path.supports (x.0 - 1)) (pair_at cell (x.0 - 1)).0 x.1
-    → IsLevel t v (support_at level_path.supports 0) (pair_at cell 0).0 x.1
-level_one cell t v x f z = subst (λ k. IsLevel t v (support_at level_path.supports k) (pair_at cell k).0 x.1) (only_place (x.0 - 1) x.1 f.1.0 f.1.1) z
+level_one : (cell : Cell) (t : Time) (v : Normal) (x : Spot) → IsFurtherSpot level_path cell x → IsLevel t v (nth_support level_path.supports (x.0 - 1)) (pair_at cell (x.0 - 1)).0 x.1
+    → IsLevel t v (nth_support level_path.supports 0) (pair_at cell 0).0 x.1
+level_one cell t v x f z = subst (λ k. IsLevel t v (nth_support level_path.supports k) (pair_at cell k).0 x.1) (only_place (x.0 - 1) x.1 f.1.0 f.1.1) z
 
 -- ---- the start cell 3 4
 abbrev pub start : Cell
@@ -50,10 +50,10 @@ start = (3, 4) ∷ []
 start_frame : IsFrame level_path start at_rest
 start_frame = (refl, (((refl, tt), refl), tt))
 
-start_level : (c : ℕ) (t : Time) (v : Normal) → IsNormal level_path start t v → IsZero (line_at (wall at_rest (at_position 3) (at_position c)) t) → IsLevel t v (support_at level_path.supports 0) 3 c
+start_level : (c : ℕ) (t : Time) (v : Normal) → IsNormal level_path start t v → IsZero (line_at (wall at_rest (at_position 3) (at_position c)) t) → IsLevel t v (nth_support level_path.supports 0) 3 c
 start_level c t v n z = (wall_level level_path start level_well start_tie.0 start_tie.1 at_rest start_frame (at_position 3) (at_position c) t v n).0 z
 
-start_further : (c : ℕ) → IsFurther (support_at level_path.supports 0) 3 4 c → (c ≡ 1) ⊎ (c ≡ 2)
+start_further : (c : ℕ) → IsFurther (nth_support level_path.supports 0) 3 4 c → (c ≡ 1) ⊎ (c ≡ 2)
 start_further zero f = absurd (let a = f.0 in omega (arith, a))
 start_further (suc zero) f = inl refl
 start_further (suc (suc zero)) f = inr refl
@@ -61,10 +61,10 @@ start_further (suc (suc (suc zero))) f = absurd (f.2 refl)
 start_further (suc (suc (suc (suc zero)))) f = absurd (f.3 refl)
 start_further (suc (suc (suc (suc (suc c))))) f = absurd (let a = f.1 in omega (arith, a))
 
-start_first : IsFurther (support_at level_path.supports 0) 3 4 1
+start_first : IsFurther (nth_support level_path.supports 0) 3 4 1
 start_first = (omega arith, omega arith, (λ e. omega (arith, e)), (λ e. omega (arith, e)))
 
-start_second : IsFurther (support_at level_path.supports 0) 3 4 2
+start_second : IsFurther (nth_support level_path.supports 0) 3 4 2
 start_second = (omega arith, omega arith, (λ e. omega (arith, e)), (λ e. omega (arith, e)))
 
 -- at time 0 both are above
@@ -74,8 +74,8 @@ start_span_zero = (
   (refl, ((refl, tt), tt)),
   (
     (λ c f. elim (start_further c f) [
-      | inl e ↦ inl (subst (λ k. IsAbove time_zero flat (support_at level_path.supports 0) 3 k) (sym e) (inl (omega (arith, ints))))
-      | inr e ↦ inl (subst (λ k. IsAbove time_zero flat (support_at level_path.supports 0) 3 k) (sym e) (inl (omega (arith, ints))))
+      | inl e ↦ inl (subst (λ k. IsAbove time_zero flat (nth_support level_path.supports 0) 3 k) (sym e) (inl (omega (arith, ints))))
+      | inr e ↦ inl (subst (λ k. IsAbove time_zero flat (nth_support level_path.supports 0) 3 k) (sym e) (inl (omega (arith, ints))))
     ]),
     tt,
   ),
@@ -85,8 +85,8 @@ start_moves : (z : Spot) → ¬ (IsAlwaysLevel level_path start z)
 start_moves z h =
     let l = level_one start time_zero flat z h.0 (h.1 time_zero flat (refl, ((refl, tt), tt))) in
     elim (start_further z.1 (further_one start z h.0)) [
-      | inl e ↦ let k = (subst (λ k. IsLevel time_zero flat (support_at level_path.supports 0) 3 k) e l).0 in absurd (omega (arith, ints, k))
-      | inr e ↦ let k = (subst (λ k. IsLevel time_zero flat (support_at level_path.supports 0) 3 k) e l).0 in absurd (omega (arith, ints, k))
+      | inl e ↦ let k = (subst (λ k. IsLevel time_zero flat (nth_support level_path.supports 0) 3 k) e l).0 in absurd (omega (arith, ints, k))
+      | inr e ↦ let k = (subst (λ k. IsLevel time_zero flat (nth_support level_path.supports 0) 3 k) e l).0 in absurd (omega (arith, ints, k))
     ]
 
 abbrev start_line : Line
@@ -112,11 +112,11 @@ start_only_upper : (u : Time) (z w : Spot) → ¬ (IsLowerTie level_path start u
 start_only_upper u z w h =
     let s = h.0.0 in
     let k = h.1.0.0 in
-    let there = λ (c : ℕ) (m : IsLevel u s.0 (support_at level_path.supports 0) 3 c). (wall_level level_path start level_well start_tie.0 start_tie.1 at_rest start_frame (at_position 3) (at_position c) u s.0 s.1).1 m in
+    let there = λ (c : ℕ) (m : IsLevel u s.0 (nth_support level_path.supports 0) 3 c). (wall_level level_path start level_well start_tie.0 start_tie.1 at_rest start_frame (at_position 3) (at_position c) u s.0 s.1).1 m in
     let l = level_one start u s.0 z k.0 (k.1 s.0 s.1) in
     let same : Same u seven = elim (start_further z.1 (further_one start z k.0)) [
-      | inl e ↦ level_at_seven start_line u (refl, tt) (there 1 (subst (λ c. IsLevel u s.0 (support_at level_path.supports 0) 3 c) e l)) (λ q. omega (arith, ints, q))
-      | inr e ↦ level_at_seven (wall at_rest (at_position 3) (at_position 2)) u (refl, tt) (there 2 (subst (λ c. IsLevel u s.0 (support_at level_path.supports 0) 3 c) e l)) (λ q. omega (arith, ints, q))
+      | inl e ↦ level_at_seven start_line u (refl, tt) (there 1 (subst (λ c. IsLevel u s.0 (nth_support level_path.supports 0) 3 c) e l)) (λ q. omega (arith, ints, q))
+      | inr e ↦ level_at_seven (wall at_rest (at_position 3) (at_position 2)) u (refl, tt) (there 2 (subst (λ c. IsLevel u s.0 (nth_support level_path.supports 0) 3 c) e l)) (λ q. omega (arith, ints, q))
     ] in
     h.0.1 time_zero (before_same time_zero seven u (same_sym u seven same) (inl (omega (arith, ints)))) start_span_zero
 
@@ -146,10 +146,10 @@ least = (1, 2) ∷ []
 least_frame : IsFrame level_path least at_rest
 least_frame = (refl, (((refl, tt), refl), tt))
 
-least_level : (c : ℕ) (t : Time) (v : Normal) → IsNormal level_path least t v → IsZero (line_at (wall at_rest (at_position 1) (at_position c)) t) → IsLevel t v (support_at level_path.supports 0) 1 c
+least_level : (c : ℕ) (t : Time) (v : Normal) → IsNormal level_path least t v → IsZero (line_at (wall at_rest (at_position 1) (at_position c)) t) → IsLevel t v (nth_support level_path.supports 0) 1 c
 least_level c t v n z = (wall_level level_path least level_well least_tie.0 least_tie.1 at_rest least_frame (at_position 1) (at_position c) t v n).0 z
 
-least_further : (c : ℕ) → IsFurther (support_at level_path.supports 0) 1 2 c → (c ≡ 3) ⊎ (c ≡ 4)
+least_further : (c : ℕ) → IsFurther (nth_support level_path.supports 0) 1 2 c → (c ≡ 3) ⊎ (c ≡ 4)
 least_further zero f = absurd (let a = f.0 in omega (arith, a))
 least_further (suc zero) f = absurd (f.2 refl)
 least_further (suc (suc zero)) f = absurd (f.3 refl)
@@ -157,18 +157,18 @@ least_further (suc (suc (suc zero))) f = inl refl
 least_further (suc (suc (suc (suc zero)))) f = inr refl
 least_further (suc (suc (suc (suc (suc c))))) f = absurd (let a = f.1 in omega (arith, a))
 
-least_first : IsFurther (support_at level_path.supports 0) 1 2 3
+least_first : IsFurther (nth_support level_path.supports 0) 1 2 3
 least_first = (omega arith, omega arith, (λ e. omega (arith, e)), (λ e. omega (arith, e)))
 
-least_second : IsFurther (support_at level_path.supports 0) 1 2 4
+least_second : IsFurther (nth_support level_path.supports 0) 1 2 4
 least_second = (omega arith, omega arith, (λ e. omega (arith, e)), (λ e. omega (arith, e)))
 
 least_moves : (z : Spot) → ¬ (IsAlwaysLevel level_path least z)
 least_moves z h =
     let l = level_one least time_zero flat z h.0 (h.1 time_zero flat (refl, ((refl, tt), tt))) in
     elim (least_further z.1 (further_one least z h.0)) [
-      | inl e ↦ let k = (subst (λ k. IsLevel time_zero flat (support_at level_path.supports 0) 1 k) e l).0 in absurd (omega (arith, ints, k))
-      | inr e ↦ let k = (subst (λ k. IsLevel time_zero flat (support_at level_path.supports 0) 1 k) e l).0 in absurd (omega (arith, ints, k))
+      | inl e ↦ let k = (subst (λ k. IsLevel time_zero flat (nth_support level_path.supports 0) 1 k) e l).0 in absurd (omega (arith, ints, k))
+      | inr e ↦ let k = (subst (λ k. IsLevel time_zero flat (nth_support level_path.supports 0) 1 k) e l).0 in absurd (omega (arith, ints, k))
     ]
 
 abbrev least_line : Line

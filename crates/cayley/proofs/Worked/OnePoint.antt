@@ -3,7 +3,8 @@ use Rattle.std.proofs.Common.{◌≡◌, ◌≢◌, ◌⊎◌, ◌↔◌, ℕ, z
 use Rattle.std.proofs.lemmas.Int.{ints}
 use Rattle.std.proofs.Math.IntN.{ℤ, pos, negsuc, ◌+ℤ◌, ◌*ℤ◌, neg_ℤ, *ℤ_comm}
 use Rattle.wide_int.proofs.Order.{mul_cancel}
-use Rattle.int_vectors.specs.Vectors.{IsZero, at, dot, scale}
+use Rattle.int_vectors.specs.Vectors.{IsZero, at, dot, scale, entries_at}
+use Rattle.int_vectors.proofs.Entries.{at-scale, at-add, zero_from}
 use Rattle.cayley.specs.Times.{Time, IsSameTime}
 use Rattle.cayley.specs.Problems.{Point, Problem, IsProblem}
 use Rattle.cayley.specs.Problems.Version.{version1}
@@ -20,9 +21,7 @@ use Rattle.cayley.specs.Shares.{Branch, IsShare, IsSize}
 use Rattle.cayley.specs.Dependencies.{Numbers, total, IsFurtherAt, IsPositiveDependency}
 use Rattle.cayley.specs.Ties.{IsLevelAt, IsTieFree}
 use Rattle.cayley.specs.Flips.{IsOnlyLevel, IsLeastPredecessor, OneLevel}
-use Rattle.cayley.proofs.Algebra.RowDependencies.{zero-at}
-use Rattle.cayley.proofs.Algebra.RowNormals.{at-zero, entry}
-use Rattle.cayley.proofs.Algebra.ScaledInverse.{at-add, at-scale}
+use Rattle.cayley.proofs.Algebra.RowNormals.{at-zero}
 use Rattle.cayley.proofs.OneCell.CellLines.{base_of, height-at}
 use Rattle.cayley.proofs.Flipping.Neighbours.{potential, gap-potential}
 use Rattle.cayley.proofs.Order.Times.{same_before, before_same, never_before}
@@ -181,7 +180,7 @@ lone_size = (
 )
 
 -- no mixed cell, so the share is empty
-none_mixed : (cell : Cell) → ¬ (IsMixedCell lone cell)
+pub none_mixed : (cell : Cell) → ¬ (IsMixedCell lone cell)
 none_mixed [] h = h.0
 none_mixed (x ∷ []) h = let o = h.0.0 in let a = o.0 in let b = o.1 in let c = o.2 in omega (arith, a, b, c)
 none_mixed (x ∷ y ∷ cell) h = h.0.1
@@ -194,8 +193,8 @@ level_heights : (t : Time) (v : Normal) (x y : Point) → x.coordinates ≡ y.co
 unfolding potential
 level_heights t v x y c z e =
     let g = sym (gap-potential t v x y e) ∙ at-zero (gap t v x y) e z in
-    let s : dot x.coordinates (entry e v.entries) ≡ dot y.coordinates (entry e v.entries) = ap (λ l. dot l (entry e v.entries)) c in
-    let q : t.over *ℤ dot x.coordinates (entry e v.entries) ≡ t.over *ℤ dot y.coordinates (entry e v.entries) = ap (λ k. t.over *ℤ k) s in
+    let s : dot x.coordinates (entries_at e v.entries) ≡ dot y.coordinates (entries_at e v.entries) = ap (λ l. dot l (entries_at e v.entries)) c in
+    let q : t.over *ℤ dot x.coordinates (entries_at e v.entries) ≡ t.over *ℤ dot y.coordinates (entries_at e v.entries) = ap (λ k. t.over *ℤ k) s in
     let p = v.positive in
     let h : v.over *ℤ at (height t x) e ≡ v.over *ℤ at (height t y) e = omega (arith, ints, g, q) in
     mul_cancel (at (height t x) e) (at (height t y) e) v.over (λ k. omega (arith, ints, k, p)) (*ℤ_comm (at (height t x) e) v.over ∙ h ∙ *ℤ_comm v.over (at (height t y) e))
@@ -203,7 +202,7 @@ level_heights t v x y c z e =
 -- the file point and the corner below it are level at time 7 only
 meet_at_seven : (t : Time) → ((e : ℕ) → at (height t (point (pos 5) (pos 7) (pos 0))) e ≡ at (height t (point (pos 5) (pos 0) (pos 1))) e) → IsSameTime t seven
 unfolding base_of
-meet_at_seven t h = zero-at _ (λ e.
+meet_at_seven t h = zero_from _ (λ e.
     let a = height-at t (point (pos 5) (pos 7) (pos 0)) e in
     let b = height-at t (point (pos 5) (pos 0) (pos 1)) e in
     let k = h e in

@@ -1,4 +1,4 @@
--- The path of two squares and its start cell meet the premises of each law.
+-- The path of two squares and its start cell meet the premises of the laws of one cell, of flips, lives, parents and shares.
 use Rattle.std.proofs.Common.{◌≡◌, ◌<ℤ◌, ◌∙◌, sym, ℕ, zero, suc, List, [], ◌∷◌, arith, refl, inl, inr, subst, Some}
 use Rattle.std.proofs.lemmas.Int.{ints}
 use Rattle.std.proofs.Math.IntN.{ℤ, pos, negsuc, ◌+ℤ◌, ◌*ℤ◌}
@@ -15,10 +15,10 @@ use Rattle.cayley.specs.Lives.{AliveJustBefore, AliveEarly, AliveLate, BeginsAt,
 use Rattle.cayley.specs.Lives.Begin.{at_start, at_time}
 use Rattle.cayley.specs.Parents.{IsParent}
 use Rattle.cayley.specs.Shares.{Branch, IsTrueBranch, IsChildren}
-use Rattle.cayley.specs.Dependencies.{support_at, pair_at, Numbers, total, IsFurtherAt, IsPositiveDependency}
+use Rattle.cayley.specs.Dependencies.{pair_at, Numbers, total, IsFurtherAt, IsPositiveDependency, nth_support}
 use Rattle.cayley.specs.Ties.{IsLevelAt, IsUntied}
 use Rattle.cayley.specs.Flips.{IsOnlyLevel, IsSuccessorAt, IsLeastPredecessor, OneLevel, Flips}
-use Rattle.cayley.specs.FlipRules.Sign.{minus}
+use Rattle.cayley.specs.declared.found.Sign.TheVariants.{Minus}
 use Rattle.cayley.proofs.Order.Lined.{Lined, early_from}
 use Rattle.cayley.proofs.OneCell.MovingNormals.{Moving, moving, IsFrame, lined_frame, moving_normal, ahead_signs, late_signs}
 use Rattle.cayley.proofs.Searching.Parents.{less_irrefl}
@@ -211,7 +211,7 @@ start_true = start_early
 
 pub start_children : IsChildren squares start kids
 start_children =
-    let l = (flip_rule squares start 1 4 (negsuc 0, negsuc 0) minus minus start_of start_further (omega (arith, ints)) (omega (arith, ints))).0 in
+    let l = (flip_rule squares start 1 4 (negsuc 0, negsuc 0) Minus Minus start_of start_further (omega (arith, ints)) (omega (arith, ints))).0 in
     let c = λ (tau : Cell). children_law squares start 1 4 numbers one normal_at_one squares_well start_before start_normal start_only start_dependency tau in (
       ((one, refl, refl, first_begins), ((one, refl, refl, second_begins), tt)),
       (l.0, λ tau. ((λ h. (c tau).1 ((l.1 tau).0 h, start_least)), (λ h. (l.1 tau).1 ((c tau).0 h).0))),
@@ -254,8 +254,8 @@ target_late =
 -- ---- the start cell has no tie at its end
 level_one : (v : Normal) → IsNormal squares start one v → (i c : ℕ) → IsLevelAt squares start one v i c → (i ≡ 1) × (c ≡ 4)
 level_one v n i c l =
-    let a = point_at (support_at squares.supports i) (pair_at start i).0 in
-    let x = point_at (support_at squares.supports i) c in
+    let a = point_at (nth_support squares.supports i) (pair_at start i).0 in
+    let x = point_at (nth_support squares.supports i) c in
     let by = λ (w : Normal) (k : IsNormal squares start one w). wall_level squares start squares_well start_of start_independent at_rest start_frame a x one w k in
     level_where i c (l.0, (by normal_at_one start_normal).0 ((by v n).1 l.1))
 

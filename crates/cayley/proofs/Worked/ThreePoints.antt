@@ -17,7 +17,7 @@ use Rattle.cayley.specs.Lives.Begin.{at_start, at_time}
 use Rattle.cayley.specs.Parents.{IsParent, InChain, IsInTree}
 use Rattle.cayley.specs.Parents.InChain.{here, up}
 use Rattle.cayley.specs.Shares.{Branch, IsTrueBranch, IsChildren, IsShare, IsSize}
-use Rattle.cayley.specs.Dependencies.{Numbers, total, support_at, IsPositiveDependency}
+use Rattle.cayley.specs.Dependencies.{Numbers, total, IsPositiveDependency, nth_support}
 use Rattle.cayley.specs.Ties.{IsLevelAt}
 use Rattle.cayley.specs.Flips.{IsOnlyLevel, IsLeastPredecessor, Flips}
 use Rattle.cayley.proofs.Order.Lined.{Lined, early_from, early_nowhere}
@@ -59,15 +59,15 @@ pub files_well : IsProblem (file_points three)
 files_well = file_points_well three three_well refl
 
 pub independent_by : (p : Problem) (a b : ℕ) → p.dimension ≡ 1 → length p.supports ≡ 1
-    → ((x : ℤ) → dot (sub (point_at (support_at p.supports 0) b).coordinates (point_at (support_at p.supports 0) a).coordinates) (x ∷ []) ≡ pos 0 → x ≡ pos 0) → IsIndependent p ((a, b) ∷ [])
+    → ((x : ℤ) → dot (sub (point_at (nth_support p.supports 0) b).coordinates (point_at (nth_support p.supports 0) a).coordinates) (x ∷ []) ≡ pos 0 → x ≡ pos 0) → IsIndependent p ((a, b) ∷ [])
 independent_by p a b n s f v l e = vector v (l ∙ n) (first p.supports s e)
   where
     first : (supports : List (List Point)) → length supports ≡ 1 → EachPair supports ((a, b) ∷ []) (λ s a b. dot (sub (point_at s b).coordinates (point_at s a).coordinates) v ≡ pos 0)
-        → dot (sub (point_at (support_at supports 0) b).coordinates (point_at (support_at supports 0) a).coordinates) v ≡ pos 0
+        → dot (sub (point_at (nth_support supports 0) b).coordinates (point_at (nth_support supports 0) a).coordinates) v ≡ pos 0
     first [] s e = absurd e
     first (s ∷ supports) k e = e.0
 
-    vector : (v : List ℤ) → length v ≡ 1 → dot (sub (point_at (support_at p.supports 0) b).coordinates (point_at (support_at p.supports 0) a).coordinates) v ≡ pos 0 → IsZero v
+    vector : (v : List ℤ) → length v ≡ 1 → dot (sub (point_at (nth_support p.supports 0) b).coordinates (point_at (nth_support p.supports 0) a).coordinates) v ≡ pos 0 → IsZero v
     vector [] l e = absurd (omega (arith, l))
     vector (x ∷ []) l e = (f x e, tt)
     vector (x ∷ y ∷ v) l e = absurd (omega (arith, l))
@@ -396,7 +396,7 @@ three_size = (
 )
 
 -- ---- the two mixed cells
-not_outer : ¬ (IsMixedCell three ((1, 3) ∷ []))
+pub not_outer : ¬ (IsMixedCell three ((1, 3) ∷ []))
 not_outer h =
     let v : Normal = record { entries = (pos 0 ∷ []) ∷ []; over = pos 1; positive = record { lt = tt } } in
     let a = all_above_any (file_points three) ((1, 3) ∷ []) time_zero v files_well (refl, ((refl, tt), tt)) h in

@@ -5,6 +5,7 @@ use Rattle.std.proofs.Math.IntN.{ℤ, pos, negsuc, ◌+ℤ◌, ◌-ℤ◌, ◌*�
 use Rattle.wide_int.proofs.Ring.{as_D, Ds, same_D}
 use Rattle.wide_int.proofs.Order.{zero_product}
 use Rattle.int_vectors.specs.Vectors.{IsZero, at}
+use Rattle.int_vectors.proofs.Entries.{at-scale, at-add}
 use Rattle.cayley.specs.Times.{Time, time_zero}
 use Rattle.cayley.specs.Problems.{Point, Problem, IsProblem, point_at, file_points}
 use Rattle.cayley.specs.Problems.Version.{version1}
@@ -13,9 +14,8 @@ use Rattle.cayley.specs.Paths.{path}
 use Rattle.cayley.specs.Cells.{Cell, IsOf, IsIndependent, IsFurther}
 use Rattle.cayley.specs.Normals.{Normal, IsNormal}
 use Rattle.cayley.specs.Mixed.{IsMixedCell}
-use Rattle.cayley.specs.Dependencies.{support_at, pair_at}
+use Rattle.cayley.specs.Dependencies.{pair_at, nth_support}
 use Rattle.cayley.specs.Ties.{IsLevelAt, IsTie, IsTieFree}
-use Rattle.cayley.proofs.Algebra.ScaledInverse.{at-add, at-scale}
 use Rattle.cayley.proofs.Algebra.RowNormals.{at-zero}
 use Rattle.cayley.proofs.Order.Lines.{Line, line_at}
 use Rattle.cayley.proofs.Order.Spans.{two_zeros}
@@ -61,25 +61,25 @@ cross l k t z w =
         elim (zero_product q (d *ℤ a -ℤ b *ℤ c) g) [ inl h ↦ absurd (some h) | inr h ↦ omega (arith, ints, h) ]
 
 -- ---- a cell whose two further points come level at two times has no tie
-only_place : (i e : ℕ) → 1 ≤ e → e ≤ length (support_at two.supports i) → i ≡ 0
+only_place : (i e : ℕ) → 1 ≤ e → e ≤ length (nth_support two.supports i) → i ≡ 0
 only_place zero e p q = refl
 only_place (suc i) e p q = absurd (omega (arith, p, q))
 
 module _ (cell : Cell) (of : IsOf two cell) (ind : IsIndependent two cell) (m : Moving) (frame : IsFrame two cell m) where
   abbrev line : ℕ → Line
-  line e = wall m (point_at (support_at two.supports 0) (pair_at cell 0).0) (point_at (support_at two.supports 0) e)
+  line e = wall m (point_at (nth_support two.supports 0) (pair_at cell 0).0) (point_at (nth_support two.supports 0) e)
 
   abbrev OneOf : ℕ → ℕ → ℕ → Type 0
   OneOf c d e = (e ≡ c) ⊎ (e ≡ d)
 
   abbrev Two : ℕ → ℕ → Type 0
-  Two c d = (e : ℕ) → IsFurther (support_at two.supports 0) (pair_at cell 0).0 (pair_at cell 0).1 e → OneOf c d e
+  Two c d = (e : ℕ) → IsFurther (nth_support two.supports 0) (pair_at cell 0).0 (pair_at cell 0).1 e → OneOf c d e
 
   at_one : (t : Time) (v : Normal) (i e : ℕ) → IsLevelAt two cell t v i e → IsLevelAt two cell t v 0 e
   at_one t v i e h = subst (λ k. IsLevelAt two cell t v k e) (only_place i e h.0.0 h.0.1) h
 
   zero_line : (t : Time) (v : Normal) (i e : ℕ) → IsNormal two cell t v → IsLevelAt two cell t v i e → IsZero (line_at (line e) t)
-  zero_line t v i e n h = (wall_level two cell two_well of ind m frame (point_at (support_at two.supports 0) (pair_at cell 0).0) (point_at (support_at two.supports 0) e) t v n).1 (at_one t v i e h).1
+  zero_line t v i e n h = (wall_level two cell two_well of ind m frame (point_at (nth_support two.supports 0) (pair_at cell 0).0) (point_at (nth_support two.supports 0) e) t v n).1 (at_one t v i e h).1
 
   untied_by : (c d : ℕ) → Two c d → (line c).slope ≢ pos 0 → (line d).slope ≢ pos 0 → (line d).slope *ℤ at (line c).start 0 ≢ (line c).slope *ℤ at (line d).start 0
       → (t : Time) (v : Normal) → ¬ (IsTie two cell t v)
@@ -121,7 +121,7 @@ pairs (suc zero) (suc zero) o t v h = omega (arith, o.1)
 pairs (suc zero) (suc (suc zero)) o t v h =
     untied_by ((1, 2) ∷ []) h.0 h.1 frozen (refl, (((refl, tt), refl), tt)) 3 4 only (λ q. omega (arith, ints, q)) (λ q. omega (arith, ints, q)) (λ q. omega (arith, ints, q)) t v h
   where
-    only : (e : ℕ) → IsFurther (support_at two.supports 0) 1 2 e → (e ≡ 3) ⊎ (e ≡ 4)
+    only : (e : ℕ) → IsFurther (nth_support two.supports 0) 1 2 e → (e ≡ 3) ⊎ (e ≡ 4)
     only zero f = absurd (let a = f.0 in omega (arith, a))
     only (suc zero) f = absurd (f.2 refl)
     only (suc (suc zero)) f = absurd (f.3 refl)
@@ -133,7 +133,7 @@ pairs (suc zero) (suc (suc (suc (suc zero)))) o t v h =
     untied_by ((1, 4) ∷ []) h.0 h.1 (record { den = pos 2; positive = record { lt = tt }; starts = pos 0 ∷ []; slopes = negsuc 0 ∷ []; long = refl }) (refl, (((refl, tt), refl), tt)) 2 3 only
     (λ q. omega (arith, ints, q)) (λ q. omega (arith, ints, q)) (λ q. omega (arith, ints, q)) t v h
   where
-    only : (e : ℕ) → IsFurther (support_at two.supports 0) 1 4 e → (e ≡ 2) ⊎ (e ≡ 3)
+    only : (e : ℕ) → IsFurther (nth_support two.supports 0) 1 4 e → (e ≡ 2) ⊎ (e ≡ 3)
     only zero f = absurd (let a = f.0 in omega (arith, a))
     only (suc zero) f = absurd (f.2 refl)
     only (suc (suc zero)) f = inl refl
@@ -148,7 +148,7 @@ pairs (suc (suc zero)) (suc (suc (suc zero))) o t v h =
     untied_by ((2, 3) ∷ []) h.0 h.1 (record { den = pos 2; positive = record { lt = tt }; starts = negsuc 0 ∷ []; slopes = pos 1 ∷ []; long = refl }) (refl, (((refl, tt), refl), tt)) 1 4 only
     (λ q. omega (arith, ints, q)) (λ q. omega (arith, ints, q)) (λ q. omega (arith, ints, q)) t v h
   where
-    only : (e : ℕ) → IsFurther (support_at two.supports 0) 2 3 e → (e ≡ 1) ⊎ (e ≡ 4)
+    only : (e : ℕ) → IsFurther (nth_support two.supports 0) 2 3 e → (e ≡ 1) ⊎ (e ≡ 4)
     only zero f = absurd (let a = f.0 in omega (arith, a))
     only (suc zero) f = inl refl
     only (suc (suc zero)) f = absurd (f.2 refl)
@@ -165,7 +165,7 @@ pairs (suc (suc (suc zero))) (suc (suc (suc (suc zero)))) o t v h =
     untied_by ((3, 4) ∷ []) h.0 h.1 (record { den = pos 1; positive = record { lt = tt }; starts = pos 0 ∷ []; slopes = pos 0 ∷ []; long = refl }) (refl, (((refl, tt), refl), tt)) 1 2 only
     (λ q. omega (arith, ints, q)) (λ q. omega (arith, ints, q)) (λ q. omega (arith, ints, q)) t v h
   where
-    only : (e : ℕ) → IsFurther (support_at two.supports 0) 3 4 e → (e ≡ 1) ⊎ (e ≡ 2)
+    only : (e : ℕ) → IsFurther (nth_support two.supports 0) 3 4 e → (e ≡ 1) ⊎ (e ≡ 2)
     only zero f = absurd (let a = f.0 in omega (arith, a))
     only (suc zero) f = inl refl
     only (suc (suc zero)) f = inr refl

@@ -14,7 +14,7 @@ use Rattle.cayley.specs.Parents.{Precedes, IsParent}
 use Rattle.cayley.specs.Dependencies.{Numbers, total, IsFurtherAt, IsPositiveDependency}
 use Rattle.cayley.specs.Ties.{IsLevelAt}
 use Rattle.cayley.specs.Flips.{IsOnlyLevel, IsSuccessorAt, IsPredecessorAt, IsLeastPredecessor, Flips}
-use Rattle.cayley.specs.FlipRules.Sign.{minus, plus}
+use Rattle.cayley.specs.declared.found.Sign.TheVariants.{Minus, Plus}
 use Rattle.cayley.proofs.Order.Lined.{Lined}
 use Rattle.cayley.proofs.OneCell.MovingNormals.{Moving, moving, IsFrame, lined_frame, moving_normal, ahead_signs}
 use Rattle.cayley.proofs.Flipping.FlipPlaces.{flip_law}
@@ -103,10 +103,10 @@ between_dependency = (omega (arith, ints), (refl, ((λ n. let e = n.1 in omega (
 
 -- two successors, in cell order, and the cell keeps both
 pub between_successors : IsListOf (IsSuccessorAt cell 0 2 (negsuc 0, negsuc 0)) (((1, 2) ∷ []) ∷ ((2, 4) ∷ []) ∷ [])
-between_successors = (flip_rule between cell 0 2 (negsuc 0, negsuc 0) minus minus between_of (further (pos 0) (pos 1) (pos 2)) (omega (arith, ints)) (omega (arith, ints))).0
+between_successors = (flip_rule between cell 0 2 (negsuc 0, negsuc 0) Minus Minus between_of (further (pos 0) (pos 1) (pos 2)) (omega (arith, ints)) (omega (arith, ints))).0
 
 pub between_keeps : IsLeastPredecessor cell 0 2 (negsuc 0, negsuc 0)
-between_keeps = (flip_rule between cell 0 2 (negsuc 0, negsuc 0) minus minus between_of (further (pos 0) (pos 1) (pos 2)) (omega (arith, ints)) (omega (arith, ints))).1.1 (tt, tt)
+between_keeps = (flip_rule between cell 0 2 (negsuc 0, negsuc 0) Minus Minus between_of (further (pos 0) (pos 1) (pos 2)) (omega (arith, ints)) (omega (arith, ints))).1.1 (tt, tt)
 
 pub between_flips : Flips between cell 0 2 (negsuc 0, negsuc 0) five
 between_flips = flip_law between cell 0 2 between_numbers five between_normal between_well between_before between_is_normal between_only between_dependency
@@ -175,16 +175,16 @@ outside_dependency = (omega (arith, ints), (refl, ((λ n. let e = n.1 in omega (
 
 -- one successor
 pub outside_successors : IsListOf (IsSuccessorAt cell 0 2 (negsuc 1, pos 1)) (((2, 4) ∷ []) ∷ [])
-outside_successors = (flip_rule outside cell 0 2 (negsuc 1, pos 1) minus plus outside_of (further (pos 1) (pos 2) (pos 0)) (omega (arith, ints)) (omega (arith, ints))).0
+outside_successors = (flip_rule outside cell 0 2 (negsuc 1, pos 1) Minus Plus outside_of (further (pos 1) (pos 2) (pos 0)) (omega (arith, ints)) (omega (arith, ints))).0
 
 -- two predecessors, of which the cell isn't the least
 pub outside_predecessors : IsListOf (IsPredecessorAt cell 0 2 (negsuc 1, pos 1)) (((1, 2) ∷ []) ∷ ((1, 4) ∷ []) ∷ [])
 outside_predecessors =
-    predecessor_rule outside cell 0 2 (negsuc 1, pos 1) minus plus outside_of (further (pos 1) (pos 2) (pos 0)) (omega (arith, ints)) (omega (arith, ints)) (λ h. let a = h.0 in omega (arith, ints, a))
+    predecessor_rule outside cell 0 2 (negsuc 1, pos 1) Minus Plus outside_of (further (pos 1) (pos 2) (pos 0)) (omega (arith, ints)) (omega (arith, ints)) (λ h. let a = h.0 in omega (arith, ints, a))
 
 pub outside_gives_up : ¬ (IsLeastPredecessor cell 0 2 (negsuc 1, pos 1))
 outside_gives_up h =
-    let k = (flip_rule outside cell 0 2 (negsuc 1, pos 1) minus plus outside_of (further (pos 1) (pos 2) (pos 0)) (omega (arith, ints)) (omega (arith, ints))).1.0 h in
+    let k = (flip_rule outside cell 0 2 (negsuc 1, pos 1) Minus Plus outside_of (further (pos 1) (pos 2) (pos 0)) (omega (arith, ints)) (omega (arith, ints))).1.0 h in
     let l = k.1 in omega (arith, l)
 
 pub outside_flips : Flips outside cell 0 2 (negsuc 1, pos 1) five

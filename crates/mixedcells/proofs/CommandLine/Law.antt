@@ -14,7 +14,7 @@ use Rattle.mixedcells.specs.declared.words.meaning.Meaning.TheVariants as meanin
 use Rattle.mixedcells.specs.CommandLine.{top}
 use Rattle.mixedcells.specs.Reading.{read}
 use Rattle.mixedcells.specs.Words.{after, alone, number, searchers_in, seed_in, searchers, system_seed, meaning_found, meaning_of, made}
-use Rattle.mixedcells.proofs.CommandLine.Shapes.{plain_taken, plain_read, check_taken, check_read, powers_taken, powers_read, generic_taken, generic_read, poly_taken, poly_read, poly_joined_taken, poly_joined_read, poly_two_taken, poly_two_read, list_taken, list_read, list_joined_taken, list_joined_read, list_two_taken, list_two_read, sum_taken, sum_read, sum_joined_taken, sum_joined_read, sum_two_taken, sum_two_read}
+use Rattle.mixedcells.proofs.CommandLine.Shapes.{plain_taken, plain_read, check_taken, check_read, powers_taken, powers_read, generic_taken, generic_read, move_taken, move_read, poly_taken, poly_read, poly_joined_taken, poly_joined_read, poly_two_taken, poly_two_read, list_taken, list_read, list_joined_taken, list_joined_read, list_two_taken, list_two_read, sum_taken, sum_read, sum_joined_taken, sum_joined_read, sum_two_taken, sum_two_read}
 
 abbrev pub IsRead : List Text → Meaning → Type 0
 IsRead ws m = (takes top ws ≡ true) × (meaning_found (read (subcommand_of top ws)) ≡ Some m)
@@ -67,6 +67,10 @@ powers_law (w ∷ ws) m e = cc
 generic_law : (ws : List Text) (m : Meaning) → alone meaning.Generic ws ≡ Some m → IsRead (codes "generic" ∷ ws) m
 generic_law [] m e = (generic_taken, ap meaning_found generic_read ∙ e)
 generic_law (w ∷ ws) m e = cc
+
+move_law : (ws : List Text) (m : Meaning) → alone meaning.Move ws ≡ Some m → IsRead (codes "move" ∷ ws) m
+move_law [] m e = (move_taken, ap meaning_found move_read ∙ e)
+move_law (w ∷ ws) m e = cc
 
 poly_joined_law : (w : Text) (o : Option Text) (m : Meaning) → after (codes "--seed=") w ≡ o → option_map meaning.Poly (option_and_then seed_in o) ≡ Some m → IsRead (codes "poly" ∷ w ∷ []) m
 poly_joined_law w None m s e = cc
@@ -142,7 +146,8 @@ law_above w ws m make e =
     chosen w (codes "check") ws (bytes_eq w (codes "check")) _ _ m refl e1 (check_law ws m) (λ e2.
     chosen w (codes "powers") ws (bytes_eq w (codes "powers")) _ _ m refl e2 (powers_law ws m) (λ e3.
     chosen w (codes "generic") ws (bytes_eq w (codes "generic")) _ _ m refl e3 (generic_law ws m) (λ e4.
-    chosen w (codes "poly") ws (bytes_eq w (codes "poly")) _ _ m refl e4 (poly_law ws m) (λ e5.
-    chosen w (codes "list") ws (bytes_eq w (codes "list")) _ _ m refl e5 (list_law ws m) (λ e6.
-    chosen w (codes "sum") ws (bytes_eq w (codes "sum")) _ _ m refl e6 (sum_law ws m) (λ e7.
-    chosen w (codes "make") ws (bytes_eq w (codes "make")) _ _ m refl e7 make (λ e8. let b : ⊥ = cc in absurd b))))))))
+    chosen w (codes "move") ws (bytes_eq w (codes "move")) _ _ m refl e4 (move_law ws m) (λ e5.
+    chosen w (codes "poly") ws (bytes_eq w (codes "poly")) _ _ m refl e5 (poly_law ws m) (λ e6.
+    chosen w (codes "list") ws (bytes_eq w (codes "list")) _ _ m refl e6 (list_law ws m) (λ e7.
+    chosen w (codes "sum") ws (bytes_eq w (codes "sum")) _ _ m refl e7 (sum_law ws m) (λ e8.
+    chosen w (codes "make") ws (bytes_eq w (codes "make")) _ _ m refl e8 make (λ e9. let b : ⊥ = cc in absurd b)))))))))

@@ -9,7 +9,7 @@ use Rattle.mixedcells.specs.declared.words.meaning.Meaning.{Meaning}
 use Rattle.mixedcells.specs.declared.words.meaning.Meaning.TheVariants as meaning
 use Rattle.mixedcells.specs.Words.{after, number, cyclic, scatter_of, scatter, family_of, seed_of, seed_in, seed_place, making, made_by_two, made_of, made, meaning_found, meaning_of}
 use Rattle.mixedcells.specs.Reading.{Read}
-use Rattle.mixedcells.proofs.CommandLine.Law.{IsRead, is_same, after_is, number_starts, law_above}
+use Rattle.mixedcells.proofs.CommandLine.Law.{IsRead, is_same, after_is, number_starts, law_above, some_of}
 use Rattle.mixedcells.proofs.CommandLine.Makes.{IsMakeRead, cyclic_no, cyclic_joined0, cyclic_joined1, cyclic_joined2, cyclic_two0, cyclic_two1, cyclic_two2, scatter_no, scatter_joined0, scatter_joined1, scatter_joined2, scatter_joined3, scatter_joined4, scatter_two0, scatter_two1, scatter_two2, scatter_two3, scatter_two4}
 
 -- the option's words o stand after the first i words
@@ -45,10 +45,6 @@ seed_some (Some f) (Some k) m e = (k, refl)
 seed_never : (o : Option Family) (m : Meaning) (P : Type 0) → option_and_then (λ f. option_map (meaning.Make f) None) o ≡ Some m → P
 seed_never None m P e = cc
 seed_never (Some f) m P e = cc
-
-map_some : {X Y : Type 0} (f : X → Y) (o : Option X) (y : Y) → option_map f o ≡ Some y → (x : X) × (o ≡ Some x)
-map_some f None y e = cc
-map_some f (Some x) y e = (x, refl)
 
 three_some : (a b c : Option ℕ) (y : Family) → option_and_then (λ n. option_and_then (λ m. option_and_then (scatter_of n m) c) b) a ≡ Some y
     → ((k : ℕ) × (a ≡ Some k)) × ((k : ℕ) × (b ≡ Some k)) × ((k : ℕ) × (c ≡ Some k))
@@ -124,7 +120,7 @@ cyclic_named : (f n : Text) (b : Bool) (ss ws : List Text) (m0 : Meaning) (y : F
     → Mixed ws (f ∷ n ∷ []) ss → making (f ∷ n ∷ []) ss ≡ Some m0 → IsRead (codes "make" ∷ ws) m0
 cyclic_named f n false ss ws m0 y s g x e = cc
 cyclic_named f n true ss ws m0 y s g x e =
-    let k = map_some _ (number 2 16 n) y g in
+    let k = some_of _ (number 2 16 n) y g in
     cyclic_started n ss ws m0 (number_starts 2 16 n k.0 k.1) (subst (λ t. Mixed ws (t ∷ n ∷ []) ss) (is_same f (codes "cyclic") s) x)
     (subst (λ t. making (t ∷ n ∷ []) ss ≡ Some m0) (is_same f (codes "cyclic") s) e)
 

@@ -4,17 +4,13 @@ use Rattle.std.specs.List.{list_all}
 use Rattle.clap.specs.Walk.{Text, Walk, walked, walk, walk_from, nothing_held, idle, option, settled_rows, used, finished}
 use Rattle.clap.specs.Simple.{built, names_of, is_simple, entered, subcommand_of}
 use Rattle.clap.specs.Takes.{takes, turn_passes, walk_passes, level_passes, settle_passes, default_passes, is_valid, entered_passes}
+use Rattle.support_text.proofs.Numbers.{both_are}
 use Rattle.mixedcells.specs.CommandLine.{top}
 use Rattle.mixedcells.specs.Reading.{Read, read, read_make}
 use Rattle.mixedcells.proofs.CommandLine.Steps.{leaf, at, seed_rule, above2, above3, above4, above5, above6, cyclic_after_seed, cyclic_after_seed_passes, cyclic_first, cyclic_first_passes, joined_after_family, joined_after_family_passes, joined_after_m, joined_after_m_passes, joined_after_n, joined_after_n_passes, joined_after_none, joined_after_none_passes, joined_after_side, joined_after_side_passes, m_after_joined, m_after_joined_passes, m_after_seed, m_after_seed_passes, m_word, m_word_passes, n_after_joined, n_after_joined_passes, n_after_seed, n_after_seed_passes, n_word, n_word_passes, scatter_after_seed, scatter_after_seed_passes, scatter_first, scatter_first_passes, seed_after_family, seed_after_family_passes, seed_after_m, seed_after_m_passes, seed_after_n, seed_after_n_passes, seed_after_none, seed_after_none_passes, seed_after_side, seed_after_side_passes, seed_value, seed_value_passes, side_after_joined, side_after_joined_passes, side_after_seed, side_after_seed_passes, side_word, side_word_passes, stops2, stops3, stops4, stops5, stops6}
 
 abbrev pub IsRun : Walk → List Text → Walk → Type 0
 IsRun W ws V = (walk_passes leaf [] W ws ≡ true) × (fold (walked leaf.rules []) W ws ≡ V)
-
-both : (a b : Bool) → a ≡ true → b ≡ true → (a && b) ≡ true
-both true true p q = refl
-both true false p q = q
-both false b p q = p
 
 run_end : (W : Walk) → IsRun W [] W
 unfolding walk_passes
@@ -23,7 +19,7 @@ run_end W = (refl, refl)
 run_step : (W U V : Walk) (w : Text) (ws : List Text) → turn_passes leaf [] W w ≡ true → walked leaf.rules [] W w ≡ U → IsRun U ws V → IsRun W (w ∷ ws) V
 unfolding walk_passes
 run_step W U V w ws p e r = (
-  both (turn_passes leaf [] W w) (walk_passes leaf [] (walked leaf.rules [] W w) ws) p (subst (λ x. walk_passes leaf [] x ws ≡ true) (sym e) r.0),
+  both_are (turn_passes leaf [] W w) (walk_passes leaf [] (walked leaf.rules [] W w) ws) p (subst (λ x. walk_passes leaf [] x ws ≡ true) (sym e) r.0),
   subst (λ x. fold (walked leaf.rules []) x ws ≡ V) (sym e) r.1,
 )
 
@@ -40,13 +36,13 @@ enters : (ws : List Text) → entered_passes (built top) (Some (codes "make", ws
 enters ws = refl
 
 below : (ws : List Text) (V : Walk) → IsRun (walk_from nothing_held) ws V → ends_well V ≡ true → level_passes leaf [] nothing_held ws false ≡ true
-below ws V r e = both (walk_passes leaf [] (walk_from nothing_held) ws) (ends_well (walk leaf.rules [] nothing_held ws)) r.0 (subst (λ x. ends_well x ≡ true) (sym r.1) e)
+below ws V r e = both_are (walk_passes leaf [] (walk_from nothing_held) ws) (ends_well (walk leaf.rules [] nothing_held ws)) r.0 (subst (λ x. ends_well x ≡ true) (sym r.1) e)
 
 from_run : (ws : List Text) (V : Walk) (r : Read) → (walk (built top).top.rules (names_of (built top)) nothing_held (codes "make" ∷ ws)).stopped ≡ Some (codes "make", ws)
     → level_passes (built top).top (names_of (built top)) nothing_held (codes "make" ∷ ws) true ≡ true
     → IsRun (walk_from nothing_held) ws V → ends_well V ≡ true → read (Some (codes "make", finished leaf.rules V.held)) ≡ Some r → IsMakeRead ws r
 from_run ws V r st top_passes run e found = (
-  both (is_simple top) _ simple (both _ _ (ap (entered_passes (built top)) st ∙ enters ws ∙ below ws V run e)
+  both_are (is_simple top) _ simple (both_are _ _ (ap (entered_passes (built top)) st ∙ enters ws ∙ below ws V run e)
       (subst (λ o. level_passes (built top).top (names_of (built top)) nothing_held (codes "make" ∷ ws) (is_some (entered (built top) o)) ≡ true) (sym st) top_passes)),
   ap (λ o. read (entered (built top) o)) st ∙ ap (λ (W : Walk). read (Some (codes "make", finished leaf.rules W.held))) run.1 ∙ found,
 )

@@ -1,14 +1,16 @@
 -- Numbers and options in words.
-use Rattle.std.proofs.Common.{◌≡◌, ◌≢◌, ◌∙◌, ℕ, ◌^◌, ◌<◌, ◌≤◌, Bool, true, false, List, [], ◌∷◌, ◌++◌, length, drop, refl, sym, ap, subst, arith, nat_lt, SomeIff, OkIff, Option, Some, None, option_map, Bor, ◌&&◌, Ok, Err}
+use Rattle.std.proofs.Common.{◌≡◌, ◌≢◌, ◌∙◌, ℕ, ◌^◌, ◌<◌, ◌≤◌, Bool, true, List, [], ◌∷◌, ◌++◌, length, drop, refl, sym, ap, subst, arith, SomeIff, OkIff, Option, Some, None, option_map, Bor, ◌&&◌, Ok, Err}
 use Rattle.std.specs.Prelude.{◌==◌, Result, nat_le, MatchOption, get_or}
-use Rattle.std.specs.Char.{is_ascii_digit, digit_value}
+use Rattle.std.specs.Char.{is_ascii_digit}
 use Rattle.std.specs.List.{list_all}
 use Rattle.std.specs.Result.{result_ok}
-use Rattle.std.specs.Str.Parse.{AllDigits, IsNumeral, ParsesUnsigned, digits_value}
+use Rattle.std.specs.Str.Parse.{IsNumeral, ParsesUnsigned, digits_value}
 use Rattle.std.specs.Str.Pattern.{FindsTextPrefix, StripsPrefix, LacksTextAt}
 use Rattle.std.proofs.lemmas.Bool.Decides.{nat_tests}
 use Rattle.std.proofs.lemmas.Str.Parse.{without_leading_plus_none}
 use Rattle.clap.specs.Walk.{Text}
+use Rattle.line_text.proofs.TokenLemmas.{and_parts}
+use Rattle.line_text.proofs.NumberLemmas.{AllDigits-from}
 use Rattle.mixedcells.specs.Words.{is_number, after}
 use Rattle.mixedcells.proofs.CommandLine.Law.{after_is}
 
@@ -17,33 +19,18 @@ number_is w bytes r same some few all =
     let P : List ℕ → Type 0 = λ l. r ≡ is_number l in
     subst P same (rw (some, few) all)
 
-both : (x y : Bool) → (x && y) ≡ true → (x ≡ true) × (y ≡ true)
-both true y h = (refl, h)
-both false y h = cc
-
-digit_is : (c : ℕ) → is_ascii_digit c ≡ true → digit_value c < 10
-digit_is c h =
-    let low : nat_lt c 48 ≡ false = grind (arith, nat_tests, h) in
-    let high : nat_lt c 58 ≡ true = grind (arith, nat_tests, h) in
-    let most : c ≤ 57 = grind (arith, nat_tests, h) in
-    rw (low, high) (omega arith)
-
-digits_from : (ds : List ℕ) → list_all is_ascii_digit ds ≡ true → AllDigits 10 ds
-digits_from [] h = tt
-digits_from (d ∷ ds) h = let p = both (is_ascii_digit d) (list_all is_ascii_digit ds) h in (digit_is d p.0, digits_from ds p.1)
-
 numeral : (w : List ℕ) → is_number w ≡ true → IsNumeral 10 w
 numeral w h =
-    let p = both (nat_le 1 (length w)) (nat_le (length w) 20 && list_all is_ascii_digit w) h in
-    let q = both (nat_le (length w) 20) (list_all is_ascii_digit w) p.1 in
-    (grind (arith, nat_tests, p.0), digits_from w q.1)
+    let p = and_parts (nat_le 1 (length w)) (nat_le (length w) 20 && list_all is_ascii_digit w) h in
+    let q = and_parts (nat_le (length w) 20) (list_all is_ascii_digit w) p.1 in
+    (grind (arith, nat_tests, p.0), AllDigits-from w q.1)
 
 no_plus : (w : List ℕ) → is_number w ≡ true → get_or w 0 0 ≢ 43
 no_plus [] h = cc
 no_plus (d ∷ ds) h =
-    let p = both (nat_le 1 (length (d ∷ ds))) (nat_le (length (d ∷ ds)) 20 && list_all is_ascii_digit (d ∷ ds)) h in
-    let q = both (nat_le (length (d ∷ ds)) 20) (list_all is_ascii_digit (d ∷ ds)) p.1 in
-    let r = both (is_ascii_digit d) (list_all is_ascii_digit ds) q.1 in
+    let p = and_parts (nat_le 1 (length (d ∷ ds))) (nat_le (length (d ∷ ds)) 20 && list_all is_ascii_digit (d ∷ ds)) h in
+    let q = and_parts (nat_le (length (d ∷ ds)) 20) (list_all is_ascii_digit (d ∷ ds)) p.1 in
+    let r = and_parts (is_ascii_digit d) (list_all is_ascii_digit ds) q.1 in
     let most : 48 ≤ d = grind (arith, nat_tests, r.0) in
     λ e. omega (arith, most, e)
 

@@ -39,6 +39,14 @@ pub generic_read : read (subcommand_of top (codes "generic" ∷ [])) ≡ Some (r
 unfolding clap_on_literals
 generic_read = refl
 
+pub move_taken : takes top (codes "move" ∷ []) ≡ true
+unfolding clap_on_literals
+move_taken = refl
+
+pub move_read : read (subcommand_of top (codes "move" ∷ [])) ≡ Some (read_searchers (codes "move") None)
+unfolding clap_on_literals
+move_read = refl
+
 pub poly_taken : takes top (codes "poly" ∷ []) ≡ true
 unfolding clap_on_literals
 poly_taken = refl

@@ -1,5 +1,5 @@
 -- Lists of words, by places and lengths.
-use Rattle.std.proofs.Common.{◌≡◌, ◌≢◌, Bool, true, false, List, [], ◌∷◌, length, refl, sym, subst, arith, Option, Some, None, option_map, option_and_then, IsTrue}
+use Rattle.std.proofs.Common.{◌≡◌, ◌≢◌, Bool, true, false, List, [], ◌∷◌, length, refl, sym, subst, Option, Some, None, option_map, option_and_then, IsTrue}
 use Rattle.std.specs.Prelude.{MatchOption}
 use Rattle.std.specs.Box.{box_value}
 use Rattle.clap.specs.Walk.{Text, Row, rows_of}
@@ -9,21 +9,7 @@ use Rattle.clap.specs.declared.parser.matches.ArgMatches.{ArgMatches}
 use Rattle.clap.specs.declared.parser.matches.ArgMatches.TheViews.{out-ArgMatches, out-SubCommand}
 use Rattle.mixedcells.specs.declared.words.Command.{Command}
 use Rattle.mixedcells.specs.declared.words.meaning.Meaning.{Meaning}
-use Rattle.mixedcells.specs.Words.{word_at, family_of, cyclic_named, scatter_named, built, meaning_of, command_for, Means, HasMeaning, IsReading, IsForTeam, needs_team, reads}
-
-pub two_words : (xs : List Text) → length xs ≡ 2 → cyclic_named (word_at xs 0) (word_at xs 1) ≡ family_of xs
-two_words [] l = absurd (omega (arith, l))
-two_words (a ∷ []) l = absurd (omega (arith, l))
-two_words (a ∷ b ∷ []) l = refl
-two_words (a ∷ b ∷ c ∷ xs) l = absurd (omega (arith, l))
-
-pub four_words : (xs : List Text) → length xs ≡ 4 → scatter_named (word_at xs 0) (word_at xs 1) (word_at xs 2) (word_at xs 3) ≡ family_of xs
-four_words [] l = absurd (omega (arith, l))
-four_words (a ∷ []) l = absurd (omega (arith, l))
-four_words (a ∷ b ∷ []) l = absurd (omega (arith, l))
-four_words (a ∷ b ∷ c ∷ []) l = absurd (omega (arith, l))
-four_words (a ∷ b ∷ c ∷ d ∷ []) l = refl
-four_words (a ∷ b ∷ c ∷ d ∷ e ∷ xs) l = absurd (omega (arith, l))
+use Rattle.mixedcells.specs.Words.{family_of, built, meaning_of, command_for, Means, HasMeaning, IsReading, IsForTeam, needs_team, reads}
 
 pub other_words : (xs : List Text) → length xs ≢ 2 → length xs ≢ 4 → None ≡ family_of xs
 other_words [] l m = refl

@@ -81,6 +81,13 @@ fn generic_line<'a>(alloc: Global) -> Result<Command<'a>, AllocError>
     powers_line(alloc)?.subcommand(Command::new(alloc, "generic"))
 }
 
+// The same and `move`.
+fn moving_line<'a>(alloc: Global) -> Result<Command<'a>, AllocError>
+    ensures app { IfOk result (λ c. app_of c ≡ spec.moving_line) }
+{
+    generic_line(alloc)?.subcommand(Command::new(alloc, "move"))
+}
+
 // `poly` with the seed as an option.
 fn system_command<'a>(alloc: Global) -> Result<Command<'a>, AllocError>
     ensures app { IfOk result (λ c. app_of c ≡ spec.system_app) }
@@ -94,7 +101,7 @@ fn system_line<'a>(alloc: Global) -> Result<Command<'a>, AllocError>
     ensures app { IfOk result (λ c. app_of c ≡ spec.system_line) }
 {
     let poly = system_command(alloc)?;
-    generic_line(alloc)?.subcommand(poly)
+    moving_line(alloc)?.subcommand(poly)
 }
 
 // The whole command line.

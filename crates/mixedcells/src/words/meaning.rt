@@ -20,6 +20,7 @@ pub enum Meaning {
     Check,
     Powers,
     Generic,
+    Move,
     /// `poly`, behind this seed.
     Poly(u64),
     /// `make`, of this family and behind this seed.

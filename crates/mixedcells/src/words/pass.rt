@@ -20,6 +20,7 @@ pub fn meaning(words: &[String]) -> Option<Meaning>
         "check" => alone(Meaning::Check, rest),
         "powers" => alone(Meaning::Powers, rest),
         "generic" => alone(Meaning::Generic, rest),
+        "move" => alone(Meaning::Move, rest),
         "poly" => Some(Meaning::Poly(system_seed(rest)?)),
         "list" => Some(Meaning::List(searchers(rest)?)),
         "sum" => Some(Meaning::Sum(searchers(rest)?)),

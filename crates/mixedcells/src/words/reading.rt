@@ -30,6 +30,7 @@ fn meaning_below(name: &str, matches: &ArgMatches) -> Option<Meaning>
         "check" => Some(Meaning::Check),
         "powers" => Some(Meaning::Powers),
         "generic" => Some(Meaning::Generic),
+        "move" => Some(Meaning::Move),
         "poly" => poly(seed_read(first_value(matches, "seed"))),
         "list" => list(searchers_read(first_value(matches, "searchers"))),
         "sum" => sum(searchers_read(first_value(matches, "searchers"))),

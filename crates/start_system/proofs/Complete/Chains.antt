@@ -4,20 +4,17 @@ use Rattle.cayley.specs.Times.{Time}
 use Rattle.cayley.specs.Problems.{Problem, IsProblem}
 use Rattle.cayley.specs.Cells.{Cell}
 use Rattle.cayley.specs.Mixed.{IsAlive}
-use Rattle.cayley.specs.Lives.{AliveLate, AliveJustBefore}
+use Rattle.cayley.specs.Lives.{AliveLate}
 use Rattle.cayley.specs.Parents.{IsParent, IsChain, InChain}
 use Rattle.cayley.specs.Parents.InChain.{here, up}
 use Rattle.cayley.specs.Ties.{IsTieFree}
 use Rattle.cayley.proofs.Order.Lines.{next, before_next}
-use Rattle.cayley.proofs.Order.Times.{middle}
 use Rattle.cayley.proofs.Life.LifeLaws.{life_law, once_law, tie_free_law}
 use Rattle.cayley.proofs.Searching.ComputedLaw.{computed_law}
+use Rattle.cayley.proofs.Life.Decisions.{alive_before}
 use Rattle.start_system.specs.Started.{IsOnlyEarly}
 
 -- a cell that is alive just before a time is alive at some time
-some_time : (p : Problem) (cell : Cell) (t : Time) → AliveJustBefore p cell t → (u : Time) × IsAlive p cell u
-some_time p cell t h = let m = middle h.0 t h.1 in (m.m, h.2 m.m m.after m.before)
-
 pub late_time : (p : Problem) (cell : Cell) → AliveLate p cell → (u : Time) × IsAlive p cell u
 late_time p cell h = (next h.0, h.1 (next h.0) (before_next h.0))
 
@@ -35,7 +32,7 @@ module _ (p : Problem) (well : IsProblem p) (start : Cell) (early : IsOnlyEarly 
   ]
   along free (x ∷ y ∷ cells) tau chain t alive =
       let parent = chain.1 in
-      let u = some_time p y parent.0 parent.2.1 in
+      let u = alive_before p y parent.0 parent.2.1 in
       up parent (along free (y ∷ cells) y chain.2 u.0 u.1)
 
   pub reached : IsTieFree p → (cell : Cell) (t : Time) → IsAlive p cell t → InChain p start cell

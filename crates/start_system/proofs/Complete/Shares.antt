@@ -4,12 +4,13 @@ use Rattle.cayley.specs.Problems.{Problem}
 use Rattle.cayley.specs.Cells.{Cell, IsOf, IsListOf}
 use Rattle.cayley.specs.Paths.{start_cell}
 use Rattle.cayley.specs.Ties.{IsTieFree}
+use Rattle.cayley.proofs.Life.Targets.{target_law}
 use Rattle.start_system.specs.Started.{IsOnlyEarly, FindsAllMixed, ReachesAllAlive, HasTreeSize}
 use Rattle.start_system.proofs.Path.Forms.{HasForm, form_well}
+use Rattle.start_system.proofs.Path.Still.{form_is_still}
 use Rattle.start_system.proofs.Early.FilePoints.{earlier_time}
 use Rattle.start_system.proofs.Early.Corners.{early_is_start}
 use Rattle.start_system.proofs.Early.StartCell.{start_is_early}
-use Rattle.start_system.proofs.Late.Targets.{mixed_is_late}
 use Rattle.start_system.proofs.Complete.Chains.{late_time, no_parent, reached}
 
 -- two properties of the same cells have the same list
@@ -39,7 +40,7 @@ module _ (p : Problem) (form : HasForm p) where
   pub all_mixed : IsTieFree p → FindsAllMixed p
   all_mixed free cells = list_both _ _ (λ cell. (
     (λ h. h.1),
-    (λ mixed. let u = late_time p cell (mixed_is_late p cell form mixed) in (only_early.0, mixed, reached p (form_well p form) (start_cell p) only_early free cell u.0 u.1)),
+    (λ mixed. let u = late_time p cell (target_law p cell (form_is_still p form) mixed) in (only_early.0, mixed, reached p (form_well p form) (start_cell p) only_early free cell u.0 u.1)),
   )) cells
 
   pub all_alive : IsTieFree p → ReachesAllAlive p

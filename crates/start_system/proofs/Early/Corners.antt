@@ -3,7 +3,7 @@ use Rattle.std.proofs.Common.{◌≡◌, ◌≢◌, ◌⊎◌, ℕ, zero, suc, �
 use Rattle.std.proofs.lemmas.Int.{ints}
 use Rattle.std.proofs.Math.IntN.{ℤ, pos, ◌+ℤ◌, ◌-ℤ◌, ◌*ℤ◌, neg_ℤ, *ℤ-zero}
 use native.Mathlib.Decide.{ℕ_discrete}
-use Rattle.int_vectors.specs.Vectors.{IsZero, IsPositive, dot, at, sub, scale}
+use Rattle.int_vectors.specs.Vectors.{IsZero, IsPositive, dot, at, sub, scale, entries_at, row_at}
 use Rattle.cayley.specs.Times.{Time}
 use Rattle.cayley.specs.Problems.{Point, Problem, point_at}
 use Rattle.cayley.specs.Paths.{start_pairs, start_cell}
@@ -13,18 +13,19 @@ use Rattle.cayley.specs.Mixed.{IsAlive}
 use Rattle.cayley.specs.Lives.{AliveEarly}
 use Rattle.wide_int.proofs.Ring.{as_D, Ds, same_D, mul_neg_ℤ}
 use Rattle.wide_int.proofs.Order.{mul_pos_ℤ}
-use Rattle.cayley.proofs.Algebra.ScaledInverse.{at-scale}
-use Rattle.cayley.proofs.Algebra.RowDependencies.{zero-at}
-use Rattle.cayley.proofs.Algebra.RowNormals.{entry, at-zero}
+use Rattle.int_vectors.proofs.Entries.{at-scale, zero_from}
+use Rattle.cayley.proofs.Algebra.RowNormals.{at-zero}
 use Rattle.cayley.proofs.Order.Lexicographic.{minus_one, positive-scale}
 use Rattle.cayley.proofs.Order.Lines.{NotNegative}
 use Rattle.cayley.proofs.OneCell.CellLines.{base_of, height-at}
 use Rattle.cayley.proofs.Flipping.Neighbours.{potential, gap-potential}
+use Rattle.cayley.proofs.Life.Targets.{pair_both, positive_first}
+use Rattle.cayley.proofs.OneCell.OneDependency.{minus-at}
 use Rattle.start_system.proofs.Path.Hull.{dot_corner}
-use Rattle.start_system.proofs.Path.Shape.{Shape, Shapes, EachFrom, from_both, from_shapes, pair_both, positive_first}
+use Rattle.start_system.proofs.Path.Shape.{Shape, Shapes, EachFrom, from_both, from_shapes}
 use Rattle.start_system.proofs.Path.Forms.{Longs, HasForm}
 use Rattle.start_system.proofs.Early.FilePoints.{NoneBelowAt, alive_none_below, earlier_time, early_corners}
-use Rattle.start_system.proofs.Early.Values.{at-sub, sum_positive, not_negative_scale, nth, at-entry, least_value, base_first, base_nothing, not_above_first, not_above_second}
+use Rattle.start_system.proofs.Early.Values.{sum_positive, not_negative_scale, at-entry, least_value, base_first, base_nothing, not_above_first, not_above_second}
 
 module _ (n i : ℕ) (s : List Point) (h : Shape n i s) (t : Time) (v : Normal) where
   abbrev pub first_corner : Point
@@ -41,17 +42,17 @@ module _ (n i : ℕ) (s : List Point) (h : Shape n i s) (t : Time) (v : Normal) 
   unfolding rise
   rise-at k e = at-scale t.over (base_of (corner_to k)) e
 
-  first_potential : (e : ℕ) → potential t v first_corner e ≡ t.over *ℤ dot h.m (entry e v.entries) +ℤ v.over *ℤ at t.entries e
+  first_potential : (e : ℕ) → potential t v first_corner e ≡ t.over *ℤ dot h.m (entries_at e v.entries) +ℤ v.over *ℤ at t.entries e
   unfolding potential
   first_potential e =
       let p : Point = record { coordinates = h.m; base = pos 0; speed = pos 1; rank = 0 } in
       let a = height-at t p e in
       let b = ap (λ x. t.over *ℤ x) (base_nothing p refl refl e) ∙ *ℤ-zero t.over in
-      ap (λ (q : Point). t.over *ℤ dot q.coordinates (entry e v.entries) +ℤ v.over *ℤ at (height t q) e) h.first
-      ∙ ap (λ x. t.over *ℤ dot h.m (entry e v.entries) +ℤ v.over *ℤ x) (omega (arith, ints, a, b))
+      ap (λ (q : Point). t.over *ℤ dot q.coordinates (entries_at e v.entries) +ℤ v.over *ℤ at (height t q) e) h.first
+      ∙ ap (λ x. t.over *ℤ dot h.m (entries_at e v.entries) +ℤ v.over *ℤ x) (omega (arith, ints, a, b))
 
   corner_potential : (k e : ℕ) → k < n
-      → potential t v (corner_to k) e ≡ t.over *ℤ (dot h.m (entry e v.entries) +ℤ h.d *ℤ at (nth v.entries k) e) +ℤ v.over *ℤ (at (rise k) e +ℤ at t.entries e)
+      → potential t v (corner_to k) e ≡ t.over *ℤ (dot h.m (entries_at e v.entries) +ℤ h.d *ℤ at (row_at v.entries k) e) +ℤ v.over *ℤ (at (rise k) e +ℤ at t.entries e)
   unfolding potential
   corner_potential k e l =
       let c = h.directions k l in
@@ -59,7 +60,7 @@ module _ (n i : ℕ) (s : List Point) (h : Shape n i s) (t : Time) (v : Normal) 
       let r = rise-at k e in
       let sp = ap (λ x. x *ℤ at t.entries e) c.speed in
       ap₂ (λ x y. t.over *ℤ x +ℤ v.over *ℤ y)
-      (ap (λ z. dot z (entry e v.entries)) c.coordinates ∙ dot_corner h.m k h.d (entry e v.entries) ∙ ap (λ x. dot h.m (entry e v.entries) +ℤ h.d *ℤ x) (at-entry v.entries k e))
+      (ap (λ z. dot z (entries_at e v.entries)) c.coordinates ∙ dot_corner h.m k h.d (entries_at e v.entries) ∙ ap (λ x. dot h.m (entries_at e v.entries) +ℤ h.d *ℤ x) (at-entry v.entries k e))
       (omega (arith, ints, a, r, sp))
 
   factor : ℤ
@@ -69,14 +70,14 @@ module _ (n i : ℕ) (s : List Point) (h : Shape n i s) (t : Time) (v : Normal) 
   unfolding factor
   factor_positive = mul_pos_ℤ t.over h.d t.positive h.positive
 
-  from_first : (k e : ℕ) → k < n → at (gap t v first_corner (corner_to k)) e ≡ at (scale factor (nth v.entries k)) e +ℤ at (scale v.over (rise k)) e
+  from_first : (k e : ℕ) → k < n → at (gap t v first_corner (corner_to k)) e ≡ at (scale factor (row_at v.entries k)) e +ℤ at (scale v.over (rise k)) e
   unfolding factor
   from_first k e l =
       let a = gap-potential t v first_corner (corner_to k) e in
       let b = first_potential e in
       let c = corner_potential k e l in
-      let r = ring t.over h.d v.over (dot h.m (entry e v.entries)) (at (nth v.entries k) e) (at (rise k) e) (at t.entries e) in
-      let x = at-scale (t.over *ℤ h.d) (nth v.entries k) e in
+      let r = ring t.over h.d v.over (dot h.m (entries_at e v.entries)) (at (row_at v.entries k) e) (at (rise k) e) (at t.entries e) in
+      let x = at-scale (t.over *ℤ h.d) (row_at v.entries k) e in
       let y = at-scale v.over (rise k) e in
       omega (arith, ints, a, b, c, r, x, y)
     where
@@ -86,7 +87,7 @@ module _ (n i : ℕ) (s : List Point) (h : Shape n i s) (t : Time) (v : Normal) 
   rise_own : (k : ℕ) → k < n → k ≡ i → IsZero (scale v.over (rise k))
   rise_own k l e =
       let c = (h.directions k l).own e in
-      zero-at _ (λ j.
+      zero_from _ (λ j.
       at-scale v.over (rise k) j ∙ ap (λ x. v.over *ℤ x) (rise-at k j ∙ ap (λ x. t.over *ℤ x) (base_nothing (corner_to k) c.0 c.1 j) ∙ *ℤ-zero t.over) ∙ *ℤ-zero v.over)
 
   rise_other : (k : ℕ) → k < n → k ≢ i → IsPositive (scale v.over (rise k))
@@ -95,34 +96,34 @@ module _ (n i : ℕ) (s : List Point) (h : Shape n i s) (t : Time) (v : Normal) 
       (positive_first _ (rw (rise-at k 0, base_first (corner_to k)) (mul_pos_ℤ t.over (corner_to k).base t.positive ((h.directions k l).other a))))
 
   -- from the first corner
-  pub other_above_first : (k : ℕ) → k < n → k ≢ i → NotNegative (nth v.entries k) → IsPositive (gap t v first_corner (corner_to k))
+  pub other_above_first : (k : ℕ) → k < n → k ≢ i → NotNegative (row_at v.entries k) → IsPositive (gap t v first_corner (corner_to k))
   other_above_first k l a p =
-      sum_positive _ (scale v.over (rise k)) (scale factor (nth v.entries k)) (rise_other k l a) (not_negative_scale factor (nth v.entries k) factor_positive p)
+      sum_positive _ (scale v.over (rise k)) (scale factor (row_at v.entries k)) (rise_other k l a) (not_negative_scale factor (row_at v.entries k) factor_positive p)
       (λ e. let x = from_first k e l in omega (arith, ints, x))
 
   -- where the own value is zero, the own direction's corner is level with the first
-  pub start_level : i < n → IsZero (nth v.entries i) → IsZero (gap t v first_corner (corner_to i))
-  start_level l z = zero-at _ (λ e.
+  pub start_level : i < n → IsZero (row_at v.entries i) → IsZero (gap t v first_corner (corner_to i))
+  start_level l z = zero_from _ (λ e.
       let a = from_first i e l in
       let b = at-zero (scale v.over (rise i)) e (rise_own i l refl) in
-      let c = at-scale factor (nth v.entries i) e ∙ ap (λ x. factor *ℤ x) (at-zero (nth v.entries i) e z) ∙ *ℤ-zero factor in
+      let c = at-scale factor (row_at v.entries i) e ∙ ap (λ x. factor *ℤ x) (at-zero (row_at v.entries i) e z) ∙ *ℤ-zero factor in
       omega (arith, ints, a, b, c))
 
   -- from the own direction's corner, where its value is least and negative
-  pub first_above_own : i < n → IsPositive (scale (neg_ℤ (pos 1)) (nth v.entries i)) → IsPositive (gap t v (corner_to i) first_corner)
+  pub first_above_own : i < n → IsPositive (scale (neg_ℤ (pos 1)) (row_at v.entries i)) → IsPositive (gap t v (corner_to i) first_corner)
   first_above_own l p =
-      sum_positive _ (scale factor (scale (neg_ℤ (pos 1)) (nth v.entries i))) [] (positive-scale factor _ factor_positive p) (inr tt) (λ e.
+      sum_positive _ (scale factor (scale (neg_ℤ (pos 1)) (row_at v.entries i))) [] (positive-scale factor _ factor_positive p) (inr tt) (λ e.
       let a = gap-potential t v (corner_to i) first_corner e in
       let b = gap-potential t v first_corner (corner_to i) e in
       let c = from_first i e l in
       let z = at-zero (scale v.over (rise i)) e (rise_own i l refl) in
-      let x = at-scale factor (nth v.entries i) e in
-      let y = at-scale factor (scale (neg_ℤ (pos 1)) (nth v.entries i)) e ∙ ap (λ w. factor *ℤ w) (at-scale (neg_ℤ (pos 1)) (nth v.entries i) e ∙ minus_one (at (nth v.entries i) e)) ∙ mul_neg_ℤ factor (at (nth v.entries i) e) in
+      let x = at-scale factor (row_at v.entries i) e in
+      let y = at-scale factor (scale (neg_ℤ (pos 1)) (row_at v.entries i)) e ∙ ap (λ w. factor *ℤ w) (at-scale (neg_ℤ (pos 1)) (row_at v.entries i) e ∙ minus_one (at (row_at v.entries i) e)) ∙ mul_neg_ℤ factor (at (row_at v.entries i) e) in
       omega (arith, ints, a, b, c, z, x, y))
 
-  pub other_above_own : (k : ℕ) → i < n → k < n → k ≢ i → NotNegative (sub (nth v.entries k) (nth v.entries i)) → IsPositive (gap t v (corner_to i) (corner_to k))
+  pub other_above_own : (k : ℕ) → i < n → k < n → k ≢ i → NotNegative (sub (row_at v.entries k) (row_at v.entries i)) → IsPositive (gap t v (corner_to i) (corner_to k))
   other_above_own k li l a p =
-      let w = sub (nth v.entries k) (nth v.entries i) in
+      let w = sub (row_at v.entries k) (row_at v.entries i) in
       sum_positive _ (scale v.over (rise k)) (scale factor w) (rise_other k l a) (not_negative_scale factor w factor_positive p) (λ e.
       let g = gap-potential t v (corner_to i) (corner_to k) e in
       let gi = gap-potential t v first_corner (corner_to i) e in
@@ -130,9 +131,9 @@ module _ (n i : ℕ) (s : List Point) (h : Shape n i s) (t : Time) (v : Normal) 
       let ci = from_first i e li in
       let ck = from_first k e l in
       let z = at-zero (scale v.over (rise i)) e (rise_own i li refl) in
-      let xi = at-scale factor (nth v.entries i) e in
-      let xk = at-scale factor (nth v.entries k) e in
-      let y = at-scale factor w e ∙ ap (λ x. factor *ℤ x) (at-sub (nth v.entries k) (nth v.entries i) e) ∙ apart factor (at (nth v.entries k) e) (at (nth v.entries i) e) in
+      let xi = at-scale factor (row_at v.entries i) e in
+      let xk = at-scale factor (row_at v.entries k) e in
+      let y = at-scale factor w e ∙ ap (λ x. factor *ℤ x) (minus-at (row_at v.entries k) (row_at v.entries i) e) ∙ apart factor (at (row_at v.entries k) e) (at (row_at v.entries i) e) in
       omega (arith, ints, g, gi, gk, ci, ck, z, xi, xk, y))
     where
       apart : (d p b : ℤ) → d *ℤ (p -ℤ b) ≡ d *ℤ p -ℤ d *ℤ b
@@ -147,7 +148,7 @@ module _ (n i : ℕ) (s : List Point) (h : Shape n i s) (t : Time) (v : Normal) 
 
   -- all is above the own direction's corner: no pair
   pub none_negative : (a b : ℕ) → i < n → h.f < a → a < b → b ≤ length s → IsZero (gap t v (point_at s a) (point_at s b)) → NoneBelowAt t v s a
-      → IsPositive (scale (neg_ℤ (pos 1)) (nth v.entries i)) → ((k : ℕ) → k < n → NotNegative (sub (nth v.entries k) (nth v.entries i))) → ⊥
+      → IsPositive (scale (neg_ℤ (pos 1)) (row_at v.entries i)) → ((k : ℕ) → k < n → NotNegative (sub (row_at v.entries k) (row_at v.entries i))) → ⊥
   none_negative a b li la lab lb z low negative least =
       let own = h.f + suc (suc i) in
       let e = h.long in
@@ -169,7 +170,7 @@ module _ (n i : ℕ) (s : List Point) (h : Shape n i s) (t : Time) (v : Normal) 
 
   -- where no value is negative, the pair is the first corner and the own direction's
   pub only_start : (a b : ℕ) → h.f < a → a < b → b ≤ length s → IsZero (gap t v (point_at s a) (point_at s b)) → NoneBelowAt t v s a
-      → ((k : ℕ) → k < n → NotNegative (nth v.entries k)) → (a ≡ suc h.f) × (b ≡ h.f + suc (suc i))
+      → ((k : ℕ) → k < n → NotNegative (row_at v.entries k)) → (a ≡ suc h.f) × (b ≡ h.f + suc (suc i))
   only_start a b la lab lb z low others =
       let e = h.long in
       let below : NotNegative (gap t v (point_at s a) first_corner) = low (suc h.f) (omega arith) (omega (arith, e)) in

@@ -1,16 +1,16 @@
 -- families of properties of times that are closed under "and": all further points of all pairs together
 use Rattle.std.proofs.Common.{◌≡◌, ◌↔◌, ℕ, zero, suc, ◌<◌, List, [], ◌∷◌, length, arith, refl, sym, subst, inl, ◌<ℤ◌}
-use Rattle.std.specs.Int.{int_min, int_max}
-use Rattle.std.proofs.lemmas.Int.{ints, int_max_is, int_min_is}
+use Rattle.std.specs.Int.{int_min}
+use Rattle.std.proofs.lemmas.Int.{ints, int_min_is}
 use Rattle.std.proofs.Math.IntN.{ℤ, pos, ◌+ℤ◌, ◌-ℤ◌, ◌*ℤ◌, neg_ℤ, *ℤ_comm}
 use native.Mathlib.Decide.{ℕ_discrete, dec_le}
 use Rattle.int_vectors.specs.Vectors.{at, add, scale}
 use Rattle.cayley.specs.Times.{Time, IsBefore}
 use Rattle.cayley.specs.Problems.{Point}
 use Rattle.cayley.specs.Cells.{Cell, EachPair, IsFurther}
-use Rattle.wide_int.proofs.Ring.{as_D, Ds, same_D}
+use Rattle.wide_int.proofs.Ring.{add_mul_ℤ}
 use Rattle.wide_int.proofs.Order.{mul_le_ℤ}
-use Rattle.cayley.proofs.Algebra.ScaledInverse.{at-add, at-scale}
+use Rattle.int_vectors.proofs.Entries.{at-scale, at-add}
 use Rattle.start_system.proofs.Path.Shape.{first_not_negative}
 
 pub record Family (F : (Time → Type 0) → Type 0) : Type 1 where
@@ -79,32 +79,8 @@ low_family = record {
 }
 
 -- ---- above some time, by entry 0
-pub record High (P : Time → Type 0) : Type 0 where
-  pub bound : ℤ
-  pub holds : (x : Time) → (bound *ℤ x.over) <ℤ at x.entries 0 → P x
-
-pub high_family : Family High
-high_family = record {
-  always = λ P h. record { bound = pos 0; holds = λ x l. h x };
-  both = λ P Q p q. record {
-    bound = int_max p.bound q.bound;
-    holds = λ x l.
-        let i = int_max_is p.bound q.bound in
-        let a = mul_le_ℤ p.bound (int_max p.bound q.bound) x.over (omega (arith, ints, i)) (let o = x.positive in omega (arith, ints, o)) in
-        let b = mul_le_ℤ q.bound (int_max p.bound q.bound) x.over (omega (arith, ints, i)) (let o = x.positive in omega (arith, ints, o)) in
-        (p.holds x (omega (arith, ints, a, l)), q.holds x (omega (arith, ints, b, l)));
-  };
-  same = λ P Q f p. record { bound = p.bound; holds = λ x l. (f x).0 (p.holds x l) };
-}
-
 unfoldable whole_time : ℤ → Time
 whole_time k = record { entries = k ∷ []; over = pos 1; positive = record { lt = tt } }
-
-shift : (n m q : ℤ) → (n +ℤ m) *ℤ q ≡ n *ℤ q +ℤ m *ℤ q
-shift n m q = rw (as_D n, as_D m, as_D q) (simp Ds (same_D _ _ _ _ (omega arith)))
-
-neg_right : (q n : ℤ) → neg_ℤ q *ℤ n ≡ neg_ℤ (n *ℤ q)
-neg_right q n = rw (as_D q, as_D n) (simp Ds (same_D _ _ _ _ (omega arith)))
 
 pub low_early : (P : Time → Type 0) → Low P → (u : Time) × ((x : Time) → IsBefore x u → P x)
 unfolding whole_time
@@ -116,20 +92,6 @@ low_early P p = (
       let e : at (add (scale x.over ((p.bound -ℤ pos 1) ∷ [])) (scale (neg_ℤ (pos 1)) x.entries)) 0 ≡ x.over *ℤ (p.bound -ℤ pos 1) +ℤ neg_ℤ (pos 1) *ℤ at x.entries 0 =
       simp (at-add, at-scale) refl in
       let c = *ℤ_comm x.over (p.bound -ℤ pos 1) in
-      let d = shift p.bound (neg_ℤ (pos 1)) x.over in
-      p.holds x (omega (arith, ints, o, f, e, c, d)),
-)
-
-pub high_late : (P : Time → Type 0) → High P → (u : Time) × ((x : Time) → IsBefore u x → P x)
-unfolding whole_time
-high_late P p = (
-  whole_time (p.bound +ℤ pos 1),
-  λ x b.
-      let o = x.positive in
-      let f = first_not_negative _ (inl b) in
-      let e : at (add (scale (pos 1) x.entries) (scale (neg_ℤ x.over) ((p.bound +ℤ pos 1) ∷ []))) 0 ≡ pos 1 *ℤ at x.entries 0 +ℤ neg_ℤ x.over *ℤ (p.bound +ℤ pos 1) =
-      simp (at-add, at-scale) refl in
-      let c = neg_right x.over (p.bound +ℤ pos 1) in
-      let d = shift p.bound (pos 1) x.over in
+      let d = add_mul_ℤ p.bound (neg_ℤ (pos 1)) x.over in
       p.holds x (omega (arith, ints, o, f, e, c, d)),
 )

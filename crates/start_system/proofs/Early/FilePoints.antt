@@ -1,34 +1,23 @@
 -- a cell that is alive at all early times has no file point
-use Rattle.std.proofs.Common.{◌≡◌, ℕ, suc, ◌+◌, ◌<◌, ◌≤◌, List, [], ◌∷◌, length, arith, refl, sym, ap, subst, ◌∙◌, inl, inr, ◌≤ℤ◌, ◌<ℤ◌}
+use Rattle.std.proofs.Common.{◌≡◌, ℕ, suc, ◌+◌, ◌<◌, ◌≤◌, List, [], ◌∷◌, length, arith, refl, sym, ap, subst, inl, inr, ◌≤ℤ◌, ◌<ℤ◌}
 use Rattle.std.proofs.lemmas.Int.{ints}
 use Rattle.std.proofs.Math.IntN.{ℤ, pos, negsuc, ◌+ℤ◌, ◌-ℤ◌, ◌*ℤ◌, neg_ℤ}
 use borrow.Author.Differences.{up, down}
 use native.Mathlib.Decide.{ℕ_discrete, dec_le}
-use Rattle.int_vectors.specs.Vectors.{weigh, Each, IsZero, IsPositive, dot, at, add, scale}
+use Rattle.int_vectors.specs.Vectors.{weigh, Each, IsZero, IsPositive, dot, at, add, scale, entries_at}
 use Rattle.int_vectors.proofs.Weighing.{weigh-lin}
 use Rattle.cayley.specs.Times.{Time, IsBefore}
 use Rattle.cayley.specs.Problems.{Point, Problem, point_at}
 use Rattle.cayley.specs.Cells.{Cell, EachPair, IsFurther}
-use Rattle.cayley.specs.Normals.{Normal, height, gap, IsNormal, AllAbove}
+use Rattle.cayley.specs.Normals.{Normal, gap, IsNormal, AllAbove}
 use Rattle.cayley.specs.Lives.{AliveEarly}
 use Rattle.wide_int.proofs.Ring.{as_D, Ds, same_D, D-pos, one_mul_ℤ, neg_mul_ℤ}
 use Rattle.wide_int.proofs.Order.{sign_cases, mul_pos_neg_ℤ}
-use Rattle.cayley.proofs.Algebra.ScaledInverse.{at-add, at-scale}
-use Rattle.cayley.proofs.Algebra.RowNormals.{entry}
-use Rattle.cayley.proofs.OneCell.CellLines.{height-at}
-use Rattle.cayley.proofs.Flipping.Neighbours.{potential, gap-potential, level_self}
+use Rattle.int_vectors.proofs.Entries.{at-scale, at-add}
+use Rattle.cayley.proofs.Flipping.Neighbours.{gap-potential, level_self}
 use Rattle.cayley.proofs.Order.Lines.{NotNegative}
-use Rattle.start_system.proofs.Early.Values.{base_first}
-use Rattle.start_system.proofs.Path.Shape.{InHull, Shape, Shapes, EachFrom, pair_both, corner_places, each_corner, weigh_not_negative, first_not_negative, positive_first, grows, corner_speed}
-
-height-first : (t : Time) (x : Point) → at (height t x) 0 ≡ t.over *ℤ x.base +ℤ x.speed *ℤ at t.entries 0
-height-first t x = height-at t x 0 ∙ ap (λ b. t.over *ℤ b +ℤ x.speed *ℤ at t.entries 0) (base_first x)
-
--- entry 0 of a potential
-pub potential-first : (t : Time) (v : Normal) (p : Point)
-    → potential t v p 0 ≡ t.over *ℤ dot p.coordinates (entry 0 v.entries) +ℤ v.over *ℤ (t.over *ℤ p.base +ℤ p.speed *ℤ at t.entries 0)
-unfolding potential
-potential-first t v p = ap (λ x. t.over *ℤ dot p.coordinates (entry 0 v.entries) +ℤ v.over *ℤ x) (height-first t p)
+use Rattle.cayley.proofs.Life.Targets.{pair_both, positive_first, potential-first}
+use Rattle.start_system.proofs.Path.Shape.{InHull, Shape, Shapes, EachFrom, corner_places, each_corner, weigh_not_negative, first_not_negative, grows, corner_speed}
 
 -- where no corner is below a file point, the time has a lower bound
 pub not_below_corners : (t : Time) (v : Normal) (s : List Point) (f n c : ℕ) (h : InHull s f n c) → (point_at s c).speed ≡ pos 0
@@ -36,7 +25,7 @@ pub not_below_corners : (t : Time) (v : Normal) (s : List Point) (f n c : ℕ) (
     → ((k : ℕ) → f < k → k ≤ f + suc n → pos 0 ≤ℤ at (gap t v (point_at s c) (point_at s k)) 0)
     → pos 0 ≤ℤ (v.over *ℤ (t.over *ℤ weigh h.numbers (corner_places f n) (λ k. (point_at s k).base) +ℤ h.d *ℤ at t.entries 0 -ℤ h.d *ℤ (t.over *ℤ (point_at s c).base)))
 not_below_corners t v s f n c h still moves above =
-    let w = entry 0 v.entries in
+    let w = entries_at 0 v.entries in
     let cs = h.numbers in
     let xs = corner_places f n in
     let X : ℕ → ℤ = λ k. dot (point_at s k).coordinates w in

@@ -3,7 +3,7 @@ use Rattle.std.proofs.Common.{◌≡◌, ℕ, zero, suc, ◌+◌, ◌<◌, List,
 use Rattle.std.proofs.lemmas.Int.{ints}
 use Rattle.std.proofs.Math.IntN.{ℤ, pos, ◌+ℤ◌, ◌-ℤ◌, ◌*ℤ◌, *ℤ-zero, *ℤ_comm}
 use native.Mathlib.Decide.{ℕ_discrete, dec_le}
-use Rattle.int_vectors.specs.Vectors.{IsZero, IsPositive, dot, at, add, sub, at_place}
+use Rattle.int_vectors.specs.Vectors.{IsZero, IsPositive, dot, at, add, sub, at_place, entries_at, row_at}
 use Rattle.cayley.specs.Times.{Time}
 use Rattle.cayley.specs.Problems.{Point, Problem, point_at}
 use Rattle.cayley.specs.Paths.{start_pairs, start_cell}
@@ -12,16 +12,15 @@ use Rattle.cayley.specs.Normals.{Normal, gap, IsNormal, AllAbove}
 use Rattle.cayley.specs.Lives.{AliveEarly}
 use Rattle.wide_int.proofs.Ring.{one_mul_ℤ}
 use Rattle.wide_int.proofs.Order.{zero_product}
+use Rattle.int_vectors.proofs.Entries.{zero_from}
 use Rattle.cayley.proofs.Algebra.ScaledInverse.{dot-zero}
-use Rattle.cayley.proofs.Algebra.RowDependencies.{zero-at}
-use Rattle.cayley.proofs.Algebra.RowNormals.{entry}
 use Rattle.cayley.proofs.Order.Lines.{NotNegative}
 use Rattle.cayley.proofs.Flipping.Neighbours.{potential, gap-potential, dot-sub}
+use Rattle.cayley.proofs.Life.Targets.{positive_first, potential-first}
 use Rattle.start_system.proofs.Path.Hull.{dot_corner}
-use Rattle.start_system.proofs.Path.Shape.{Shape, Shapes, EachFrom, from_both, from_shapes, from_shapes_from, pairs_of_from, positive_first}
+use Rattle.start_system.proofs.Path.Shape.{Shape, Shapes, EachFrom, from_both, from_shapes, from_shapes_from, pairs_of_from}
 use Rattle.start_system.proofs.Path.Forms.{Longs, HasForm}
-use Rattle.start_system.proofs.Early.FilePoints.{potential-first}
-use Rattle.start_system.proofs.Early.Values.{nth, at-entry}
+use Rattle.start_system.proofs.Early.Values.{at-entry}
 use Rattle.start_system.proofs.Early.Corners.{StartPair, other_above_first, start_level, which, from_pick}
 use Rattle.start_system.proofs.Early.Families.{Low, low_family, low_early, all_further}
 
@@ -34,7 +33,7 @@ length-nothing : (n : ℕ) → length (nothing n) ≡ n
 length-nothing zero = refl
 length-nothing (suc n) = ap suc (length-nothing n)
 
-nth-nothing : (n k : ℕ) → nth (nothing n) k ≡ []
+nth-nothing : (n k : ℕ) → row_at (nothing n) k ≡ []
 nth-nothing zero k = refl
 nth-nothing (suc n) zero = refl
 nth-nothing (suc n) (suc k) = nth-nothing n k
@@ -51,7 +50,7 @@ low_above n i s h l c further = elim (dec_le c h.f) [
     bound = (point_at s c).base;
     holds = λ x b.
         let v = still n in
-        let z : (p : Point) → dot p.coordinates (entry 0 (nothing n)) ≡ pos 0 = λ p. dot-zero p.coordinates (entry 0 (nothing n)) (zero-at _ (λ k. at-entry (nothing n) k 0 ∙ ap (λ u. at u 0) (nth-nothing n k))) in
+        let z : (p : Point) → dot p.coordinates (entries_at 0 (nothing n)) ≡ pos 0 = λ p. dot-zero p.coordinates (entries_at 0 (nothing n)) (zero_from _ (λ k. at-entry (nothing n) k 0 ∙ ap (λ u. at u 0) (nth-nothing n k))) in
         let g = gap-potential x v (point_at s (suc h.f)) (point_at s c) 0 in
         let first : Point = record { coordinates = h.m; base = pos 0; speed = pos 1; rank = 0 } in
         let a = potential-first x v (point_at s c) in

@@ -1,6 +1,5 @@
 -- the corners of a support are those of a path exactly where each one alone is
 use Rattle.std.proofs.Common.{◌≡◌, ◌≢◌, true, false, ℕ, zero, suc, ◌+◌, ◌-◌, ◌<◌, ◌≤◌, List, [], ◌∷◌, length, map, take, drop, arith, refl, sym, ap, subst, ◌∙◌, ◌≤ℤ◌}
-use native.Mathlib.Decide.{ℕ_discrete}
 use Rattle.std.proofs.Math.IntN.{ℤ, pos}
 use Rattle.std.proofs.lemmas.Int.{ints}
 use Rattle.std.proofs.lemmas.List.{length-map, length-drop}
@@ -8,14 +7,11 @@ use Rattle.int_vectors.specs.Vectors.{Each, add, at_place}
 use Rattle.cayley.specs.Problems.{Point, point_at, origin, with_rank}
 use Rattle.cayley.specs.Files.{FilePoint}
 use Rattle.cayley.specs.Stored.{held}
-use Rattle.cayley.specs.Paths.{corner, corners, least_coordinates, reach, later_corners, direction_corners}
+use Rattle.cayley.specs.Paths.{corner, corners, least_coordinates, later_corners, direction_corners, simplex_edge}
 use Rattle.cayley.proofs.Lists.Each.{read_drop}
 use Rattle.start_system.specs.Corners.{IsFirstOf, IsDirectionOf, HasPathCorners}
 use Rattle.start_system.proofs.Path.Positions.{from_zero, point_suc}
 use Rattle.start_system.proofs.Path.Supports.{direction_from_zero, length-directions}
-
-bare : List Point → List Point
-bare s = map (with_rank 0) s
 
 corner_is : (x : Point) (v : List ℤ) (z : ℤ) → x.coordinates ≡ v → x.base ≡ z → x.speed ≡ pos 1 → with_rank 0 x ≡ corner v z
 corner_is x v z e f g = λ i. record { coordinates = e i; base = f i; speed = g i; rank = 0 }
@@ -79,7 +75,7 @@ module _ (n own f : ℕ) (s : List Point) (lo : own < n) where
   m = least_coordinates points
 
   abbrev d : ℤ
-  d = reach m points
+  d = simplex_edge m points
 
   abbrev Directions : Type 0
   Directions = (k : ℕ) → k < n → IsDirectionOf m d own k (point_at s (suc (f + suc k)))
@@ -142,17 +138,17 @@ module _ (n own f : ℕ) (s : List Point) (lo : own < n) where
         )
 
 -- ---- with m and d as they are computed, and the support counted from 1
-module _ (n i f : ℕ) (s : List Point) (m : List ℤ) (d : ℤ) (li : 1 ≤ i) (lo : i ≤ n) (mi : m ≡ least_coordinates (map held (take f s))) (di : d ≡ reach m (map held (take f s))) where
-  same_reach : d ≡ reach (least_coordinates (map held (take f s))) (map held (take f s))
-  same_reach = di ∙ ap (λ v. reach v (map held (take f s))) mi
+module _ (n i f : ℕ) (s : List Point) (m : List ℤ) (d : ℤ) (li : 1 ≤ i) (lo : i ≤ n) (mi : m ≡ least_coordinates (map held (take f s))) (di : d ≡ simplex_edge m (map held (take f s))) where
+  same_reach : d ≡ simplex_edge (least_coordinates (map held (take f s))) (map held (take f s))
+  same_reach = di ∙ ap (λ v. simplex_edge v (map held (take f s))) mi
 
   own_back : suc (i - 1) ≡ i
   own_back = omega (arith, li)
 
-  as_computed : (k : ℕ) (x : Point) → IsDirectionOf (least_coordinates (map held (take f s))) (reach (least_coordinates (map held (take f s))) (map held (take f s))) (i - 1) k x → IsDirectionOf m d (i - 1) k x
+  as_computed : (k : ℕ) (x : Point) → IsDirectionOf (least_coordinates (map held (take f s))) (simplex_edge (least_coordinates (map held (take f s))) (map held (take f s))) (i - 1) k x → IsDirectionOf m d (i - 1) k x
   as_computed k x h = subst (λ v. IsDirectionOf v d (i - 1) k x) (sym mi) (subst (λ e. IsDirectionOf (least_coordinates (map held (take f s))) e (i - 1) k x) (sym same_reach) h)
 
-  as_defined : (k : ℕ) (x : Point) → IsDirectionOf m d (i - 1) k x → IsDirectionOf (least_coordinates (map held (take f s))) (reach (least_coordinates (map held (take f s))) (map held (take f s))) (i - 1) k x
+  as_defined : (k : ℕ) (x : Point) → IsDirectionOf m d (i - 1) k x → IsDirectionOf (least_coordinates (map held (take f s))) (simplex_edge (least_coordinates (map held (take f s))) (map held (take f s))) (i - 1) k x
   as_defined k x h = subst (λ e. IsDirectionOf (least_coordinates (map held (take f s))) e (i - 1) k x) same_reach (subst (λ v. IsDirectionOf v d (i - 1) k x) mi h)
 
   pub to_direction : HasPathCorners n i f s → (k : ℕ) → k < n → IsDirectionOf m d (i - 1) k (point_at s (suc (f + suc k)))
@@ -171,9 +167,3 @@ first_of n i f s li lo h =
 -- ---- a loop over the directions
 pub no_true : false ≡ true → ⊥
 no_true e = cc
-
-pub next_direction : (P : ℕ → Type 0) (k : ℕ) → ((j : ℕ) → j < k → P j) → P k → (j : ℕ) → j < k + 1 → P j
-next_direction P k h p j l = elim (ℕ_discrete j k) [
-  | yes e ↦ subst P (sym e) p
-  | no n ↦ h j (omega (arith, l, n))
-]

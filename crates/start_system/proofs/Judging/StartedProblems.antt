@@ -6,7 +6,7 @@ use Rattle.int_vectors.specs.Vectors.{Each, add, at_place}
 use Rattle.cayley.specs.Problems.{Point, Problem, EachSupport, version1, IsStill, HasNoCorners, with_rank, first_points, ranked_supports}
 use Rattle.cayley.specs.Files.{FilePoint, resting}
 use Rattle.cayley.specs.Stored.{held}
-use Rattle.cayley.specs.Paths.{corner, corners, least_coordinates, reach, later_corners, direction_corners, path_supports}
+use Rattle.cayley.specs.Paths.{corner, corners, least_coordinates, later_corners, direction_corners, path_supports, simplex_edge}
 use Rattle.cayley.specs.Valid.{IsValidProblem, support_at, file_count_at}
 use Rattle.cayley.proofs.Lists.Each.{map_map, map_drop, same_read}
 use Rattle.cayley.proofs.Lists.Supports.{each_support_at, each_support_from}
@@ -79,7 +79,7 @@ bare_directions m d (suc own) k [] = refl
 bare_directions m d (suc own) k (z ∷ starts) = ap (λ (xs : List Point). corner (add m (at_place k d)) z ∷ xs) (bare_directions m d own (suc k) starts)
 
 bare_corners : (i : ℕ) (points : List FilePoint) (starts : List ℤ) → bare (corners i points starts) ≡ corners i points starts
-bare_corners i points starts = ap (λ (xs : List Point). corner (least_coordinates points) (pos 0) ∷ xs) (bare_directions (least_coordinates points) (reach (least_coordinates points) points) (i - 1) 0 starts)
+bare_corners i points starts = ap (λ (xs : List Point). corner (least_coordinates points) (pos 0) ∷ xs) (bare_directions (least_coordinates points) (simplex_edge (least_coordinates points) points) (i - 1) 0 starts)
 
 back_one : (n i f : ℕ) (s : List Point) (z : List ℤ) → f ≤ length s → length z ≡ n - 1 → Each z (λ z. pos 1 ≤ℤ z)
     → bare s ≡ bare (map resting (map held (take f s)) ++ corners i (map held (take f s)) z) → HasPathCorners n i f s

@@ -1,13 +1,14 @@
 -- lists that are made one entry after the other, sums of differences, and the entries of m + d e_k
 use Rattle.std.proofs.Common.{◌≡◌, ◌≢◌, ℕ, zero, suc, ◌+◌, ◌<◌, ◌≤◌, List, [], ◌∷◌, ◌++◌, length, take, drop, get_or, append_assoc, arith, refl, sym, ap, ap₂, ◌∙◌}
-use Rattle.std.proofs.Math.IntN.{ℤ, pos, ◌+ℤ◌, ◌*ℤ◌, ◌-ℤ◌, neg_ℤ}
+use Rattle.std.proofs.Math.IntN.{ℤ, pos, ◌+ℤ◌, ◌-ℤ◌}
 use Rattle.std.proofs.Math.Seq.{take-suc}
 use Rattle.std.proofs.lemmas.Int.{ints}
 use Rattle.std.proofs.lemmas.List.{take_all, ext_get_or}
 use Rattle.int_vectors.specs.Vectors.{Each, at, add, sub, at_place}
+use Rattle.int_vectors.proofs.Entries.{at-add, at_own, at_other}
+use Rattle.int_vectors.proofs.Differences.{minus_one}
 use Rattle.cayley.specs.Paths.{sum_of}
 use Rattle.cayley.specs.Valid.{IsCoordinate}
-use Rattle.cayley.proofs.Algebra.ScaledInverse.{at-add}
 use Rattle.cayley.proofs.Lists.Each.{all_each}
 
 -- ---- one entry more
@@ -31,13 +32,10 @@ all_behind whole before made k h l = h ∙ ap (λ xs. before ++ xs) (take_all k 
 abbrev pub left_sum : List ℤ → List ℤ → ℕ → ℤ
 left_sum x m k = sum_of (sub (drop k x) (drop k m))
 
-pub left_first : (x m : ℤ) → x +ℤ neg_ℤ (pos 1) *ℤ m ≡ x -ℤ m
-left_first x m = omega (arith, ints)
-
 left_next : (x m : List ℤ) (k : ℕ) → length x ≡ length m → k < length x → left_sum x m k ≡ (at x k -ℤ at m k) +ℤ left_sum x m (suc k)
 left_next [] m k e l = absurd (omega arith)
 left_next (x ∷ xs) [] k e l = absurd (omega arith)
-left_next (x ∷ xs) (m ∷ ms) zero e l = ap (λ z. z +ℤ sum_of (sub xs ms)) (left_first x m)
+left_next (x ∷ xs) (m ∷ ms) zero e l = ap (λ z. z +ℤ sum_of (sub xs ms)) (minus_one x m)
 left_next (x ∷ xs) (m ∷ ms) (suc k) e l = left_next xs ms k (omega arith) (omega arith)
 
 pub sum_more : (x m : List ℤ) (k : ℕ) (t w : ℤ) → length x ≡ length m → k < length x → t +ℤ left_sum x m k ≡ w → (t +ℤ (at x k -ℤ at m k)) +ℤ left_sum x m (k + 1) ≡ w
@@ -50,35 +48,11 @@ sum_more x m k t w e l h =
     by : (t g r s u w : ℤ) → r ≡ g +ℤ s → s ≡ u → t +ℤ r ≡ w → (t +ℤ g) +ℤ u ≡ w
     by t g r s u w n p h = omega (arith, ints, n, p, h)
 
-pub sum_end : (x m : List ℤ) (k : ℕ) (t w : ℤ) → length x ≡ length m → length x ≤ k → t +ℤ left_sum x m k ≡ w → t ≡ w
-sum_end x m k t w e l h = let z = none x m k e l in by t (left_sum x m k) w z h
-  where
-    by : (t r w : ℤ) → r ≡ pos 0 → t +ℤ r ≡ w → t ≡ w
-    by t r w z h = omega (arith, ints, z, h)
-
-    none : (x m : List ℤ) (k : ℕ) → length x ≡ length m → length x ≤ k → left_sum x m k ≡ pos 0
-    none [] [] zero e l = refl
-    none [] [] (suc k) e l = refl
-    none [] (m ∷ ms) k e l = absurd (omega arith)
-    none (x ∷ xs) [] k e l = absurd (omega arith)
-    none (x ∷ xs) (m ∷ ms) zero e l = absurd (omega arith)
-    none (x ∷ xs) (m ∷ ms) (suc k) e l = none xs ms k (omega arith) (omega arith)
-
 -- an entry of a list of coordinates
 pub small_at : (xs : List ℤ) (k : ℕ) → Each xs IsCoordinate → k < length xs → IsCoordinate (at xs k)
 small_at xs k h l = all_each IsCoordinate xs h k (pos 0) l
 
 -- ---- m + d e_k
-at_own : (k : ℕ) (d : ℤ) → at (at_place k d) k ≡ d
-at_own zero d = refl
-at_own (suc k) d = at_own k d
-
-at_other : (k j : ℕ) (d : ℤ) → j ≢ k → at (at_place k d) j ≡ pos 0
-at_other zero zero d n = absurd (n refl)
-at_other zero (suc j) d n = refl
-at_other (suc k) zero d n = refl
-at_other (suc k) (suc j) d n = at_other k j d (λ e. n (ap suc e))
-
 pub moved_own : (m : List ℤ) (k j : ℕ) (d : ℤ) → j ≡ k → at m j +ℤ d ≡ at (add m (at_place k d)) j
 moved_own m k j d e = sym (at-add m (at_place k d) j ∙ ap (λ z. at m j +ℤ z) (ap (at (at_place k d)) e ∙ at_own k d))
 
@@ -88,7 +62,7 @@ moved_other m k j d n = sym (at-add m (at_place k d) j ∙ ap (λ z. at m j +ℤ
     nothing : (z : ℤ) → z +ℤ pos 0 ≡ z
     nothing z = omega (arith, ints)
 
-length-place : (k : ℕ) (d : ℤ) → length (at_place k d) ≡ suc k
+pub length-place : (k : ℕ) (d : ℤ) → length (at_place k d) ≡ suc k
 length-place zero d = refl
 length-place (suc k) d = ap suc (length-place k d)
 

@@ -9,7 +9,7 @@ use Rattle.int_vectors.specs.Vectors.{Each, at, sub}
 use Rattle.cayley.specs.Files.{FilePoint}
 use Rattle.cayley.specs.declared.points.FilePoint.{FilePoint as StoredFilePoint}
 use Rattle.cayley.specs.Stored.{file_point}
-use Rattle.cayley.specs.Paths.{lower, least_coordinates, sum_of, reach}
+use Rattle.cayley.specs.Paths.{lower, least_coordinates, sum_of, simplex_edge}
 use Rattle.cayley.specs.Valid.{IsCoordinate}
 use Rattle.cayley.proofs.Lists.Each.{each_weaker, all_each, map_at}
 use Rattle.start_system.specs.Corners.{ArePoints}
@@ -100,17 +100,17 @@ pub least_long : (n : ℕ) (points : List FilePoint) → ArePoints n points → 
 least_long n points h = length-least n points h.0 (long_points n points h)
 
 -- ---- the reach
-reach_longer : (m : List ℤ) (x : FilePoint) (xs : List FilePoint) → reach m (xs ++ (x ∷ [])) ≡ int_max (reach m xs) (sum_of (sub x.coordinates m))
+reach_longer : (m : List ℤ) (x : FilePoint) (xs : List FilePoint) → simplex_edge m (xs ++ (x ∷ [])) ≡ int_max (simplex_edge m xs) (sum_of (sub x.coordinates m))
 reach_longer m x [] = max_turned (sum_of (sub x.coordinates m)) (pos 1)
-reach_longer m x (y ∷ xs) = ap (int_max (sum_of (sub y.coordinates m))) (reach_longer m x xs) ∙ max_assoc (sum_of (sub y.coordinates m)) (reach m xs) (sum_of (sub x.coordinates m))
+reach_longer m x (y ∷ xs) = ap (int_max (sum_of (sub y.coordinates m))) (reach_longer m x xs) ∙ max_assoc (sum_of (sub y.coordinates m)) (simplex_edge m xs) (sum_of (sub x.coordinates m))
 
 pub reach_more : (m : List ℤ) (c : ℕ) (points : List FilePoint) (x : FilePoint) (most s : ℤ) → c < length points → x ≡ get_or points c x → s ≡ sum_of (sub x.coordinates m)
-    → most ≡ reach m (take c points) → int_max most s ≡ reach m (take (c + 1) points)
+    → most ≡ simplex_edge m (take c points) → int_max most s ≡ simplex_edge m (take (c + 1) points)
 reach_more m c points x most s l is sum e =
-    sym (ap (reach m) (take_next points c x l ∙ ap (λ y. take c points ++ (y ∷ [])) (sym is)) ∙ reach_longer m x (take c points) ∙ ap₂ int_max (sym e) (sym sum))
+    sym (ap (simplex_edge m) (take_next points c x l ∙ ap (λ y. take c points ++ (y ∷ [])) (sym is)) ∙ reach_longer m x (take c points) ∙ ap₂ int_max (sym e) (sym sum))
 
-pub reach_end : (m : List ℤ) (c : ℕ) (points : List FilePoint) (most : ℤ) → length points ≤ c → most ≡ reach m (take c points) → most ≡ reach m points
-reach_end m c points most l e = e ∙ ap (reach m) (take_all c points l)
+pub reach_end : (m : List ℤ) (c : ℕ) (points : List FilePoint) (most : ℤ) → length points ≤ c → most ≡ simplex_edge m (take c points) → most ≡ simplex_edge m points
+reach_end m c points most l e = e ∙ ap (simplex_edge m) (take_all c points l)
 
 pub most_least : (a b : ℤ) → pos 1 ≤ℤ a → pos 1 ≤ℤ int_max a b
 most_least a b h = omega (arith, ints, int_max_is a b, h)

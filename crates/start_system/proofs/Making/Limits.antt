@@ -3,14 +3,15 @@ use Rattle.std.proofs.Common.{◌≡◌, ℕ, zero, suc, ◌+◌, ◌*◌, ◌-�
 use Rattle.std.proofs.Math.IntN.{ℤ, pos}
 use Rattle.std.proofs.lemmas.Int.{ints, int_max_is}
 use Rattle.int_vectors.specs.Vectors.{Each, add, sub, at_place}
+use Rattle.int_vectors.proofs.Differences.{minus_one}
 use Rattle.cayley.specs.Files.{FilePoint}
-use Rattle.cayley.specs.Paths.{corners, least_coordinates, sum_of, reach, later_corners, direction_corners}
+use Rattle.cayley.specs.Paths.{corners, least_coordinates, sum_of, later_corners, direction_corners, simplex_edge}
 use Rattle.cayley.specs.Valid.{IsCoordinate, IsCornerCoordinate, IsStart, IsWithinCorners}
 use Rattle.cayley.proofs.Lists.Each.{each_weaker}
+use Rattle.cayley.proofs.Lists.Supports.{wider}
 use Rattle.start_system.specs.Corners.{ArePoints}
 use Rattle.start_system.proofs.Path.Reach.{reach_positive}
-use Rattle.start_system.proofs.Making.Entries.{left_first}
-use Rattle.start_system.proofs.Making.Numbers.{wider, own_small}
+use Rattle.start_system.proofs.Making.Numbers.{own_small}
 use Rattle.start_system.proofs.Making.Least.{least_long, least_small}
 
 -- ---- the reach
@@ -20,18 +21,18 @@ sum_small [] (m ∷ ms) e h g = absurd (omega arith)
 sum_small (x ∷ xs) [] e h g = absurd (omega arith)
 sum_small (x ∷ xs) (m ∷ ms) e h g =
     let r = sum_small xs ms (omega arith) h.1 g.1 in
-    let f = left_first x m in
+    let f = minus_one x m in
     let a = h.0 in
     let b = g.0 in
     omega (arith, ints, r, f, a, b)
 
 reach_small : (n : ℕ) (m : List ℤ) (points : List FilePoint) → length m ≡ n → n ≤ 16 → Each m IsCoordinate → Each points (λ x. (length x.coordinates ≡ n) × Each x.coordinates IsCoordinate)
-    → reach m points ≤ℤ pos 32000000
+    → simplex_edge m points ≤ℤ pos 32000000
 reach_small n m [] e l g h = omega (arith, ints)
 reach_small n m (x ∷ points) e l g h =
     let r = reach_small n m points e l g h.1 in
     let s = sum_small x.coordinates m (h.0.0 ∙ sym e) h.0.1 g in
-    omega (arith, ints, r, s, e, l, int_max_is (sum_of (sub x.coordinates m)) (reach m points))
+    omega (arith, ints, r, s, e, l, int_max_is (sum_of (sub x.coordinates m)) (simplex_edge m points))
 
 -- ---- the corners
 moved_small : (m : List ℤ) (k : ℕ) (d : ℤ) → Each m IsCoordinate → k < length m → pos 0 ≤ℤ d → d ≤ℤ pos 32000000 → Each (add m (at_place k d)) IsCornerCoordinate
@@ -71,5 +72,5 @@ corners_within n i points starts l a b e h g =
     let low = reach_positive m points in
     let high = reach_small n m points long l small h.1 in (
       (each_weaker IsCoordinate IsCornerCoordinate m wider small, (omega (arith, ints), omega (arith, ints))),
-      directions_within m (reach m points) small (omega (arith, ints, low)) high (i - 1) 0 starts (omega (arith, a, b, e)) (omega (arith, long, e)) g,
+      directions_within m (simplex_edge m points) small (omega (arith, ints, low)) high (i - 1) 0 starts (omega (arith, a, b, e)) (omega (arith, long, e)) g,
     )

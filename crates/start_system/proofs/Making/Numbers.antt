@@ -17,9 +17,6 @@ corner_fits z h = by_abs z (omega (arith, h))
 pub own_small : (x d : ℤ) → IsCoordinate x → pos 0 ≤ℤ d → d ≤ℤ pos 32000000 → IsCornerCoordinate (x +ℤ d)
 own_small x d h l m = omega (arith, ints, h, l, m)
 
-pub wider : (x : ℤ) → IsCoordinate x → IsCornerCoordinate x
-wider x h = omega (arith, h)
-
 pub difference_fits : (a b : ℤ) → IsCoordinate a → IsCoordinate b → FitsSigned w128 (a -ℤ b)
 difference_fits a b h k = by_abs (a -ℤ b) (omega (arith, ints, h, k))
 
@@ -31,9 +28,6 @@ total_high t a b k h g u = omega (arith, ints, h, g, u)
 
 pub total_low : (t a b : ℤ) (k : ℕ) → IsCoordinate a → IsCoordinate b → pos 0 ≤ℤ (t +ℤ pos (2000000 * k)) → pos 0 ≤ℤ ((t +ℤ (a -ℤ b)) +ℤ pos (2000000 * (k + 1)))
 total_low t a b k h g v = omega (arith, ints, h, g, v)
-
-pub total_most : (t : ℤ) (k : ℕ) → t ≤ℤ pos (2000000 * k) → k ≤ 16 → t ≤ℤ pos 32000000
-total_most t k u l = omega (arith, ints, u, l)
 
 pub small_fit : (xs : List ℤ) → Each xs IsCoordinate → AllFit xs
 small_fit [] h = tt

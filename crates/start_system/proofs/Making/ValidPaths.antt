@@ -1,48 +1,28 @@
 -- the path of a valid file is a valid problem
-use Rattle.std.proofs.Common.{◌≡◌, ℕ, suc, ◌+◌, ◌<◌, ◌≤◌, List, [], ◌∷◌, ◌++◌, length, map, take, drop, get_or, arith, refl, sym, ap, subst, ◌∙◌, inl, inr}
-use Rattle.std.proofs.Math.IntN.{ℤ, pos}
+use Rattle.std.proofs.Common.{◌≡◌, ℕ, suc, ◌+◌, ◌≤◌, List, [], ◌∷◌, ◌++◌, length, map, take, drop, get_or, arith, refl, sym, ap, subst, ◌∙◌, inl, inr}
+use Rattle.std.proofs.Math.IntN.{ℤ}
 use Rattle.std.proofs.lemmas.Int.{ints}
-use Rattle.std.proofs.lemmas.List.{length-drop}
 use Rattle.int_vectors.specs.Vectors.{Each}
-use Rattle.cayley.specs.Problems.{Version, Point, EachSupport, point_at, with_rank, ranked_supports}
+use Rattle.cayley.specs.Problems.{Version, Point, EachSupport, with_rank, ranked_supports}
 use Rattle.cayley.specs.declared.points.Support.{Support}
 use Rattle.cayley.specs.Stored.{point, problem_of}
 use Rattle.cayley.specs.Files.{FilePoint, File, resting}
 use Rattle.cayley.specs.Paths.{corners, path_supports, path, starts_of}
 use Rattle.cayley.specs.Valid.{IsStart, AreDistinct, IsWithinFile, IsWithinProblem, IsWithinCorners, IsValidFile, IsValidProblem}
-use Rattle.cayley.proofs.Lists.Each.{map_map, map_take, map_drop, each_map, read_drop}
+use Rattle.cayley.proofs.Lists.Each.{map_map, map_take, map_drop, each_map, each_both}
 use Rattle.start_system.specs.Corners.{ArePoints}
-use Rattle.start_system.proofs.Path.Positions.{from_zero, point_suc}
-use Rattle.start_system.proofs.Path.Shape.{Shapes, corner_speed}
+use Rattle.start_system.proofs.Path.Positions.{from_zero}
 use Rattle.start_system.proofs.Path.Forms.{Longs, path_form, form_well}
+use Rattle.start_system.proofs.Path.Still.{form_still, moving_all}
 use Rattle.start_system.proofs.Started.Heights.{valid_lift, starts_small}
 use Rattle.start_system.proofs.Started.Reranking.{same_ranked, bare_ranked, taken}
-use Rattle.start_system.proofs.Started.SearchLaws.{form_still}
 use Rattle.start_system.proofs.Making.Limits.{corners_within}
 use Rattle.start_system.proofs.Making.Parts.{parts_of}
 
 abbrev bare : List Point → List Point
 bare s = map (with_rank 0) s
 
--- ---- corners move
-each_from_zero : (P : Point → Type 0) (xs : List Point) → ((k : ℕ) → k < length xs → P (from_zero xs k)) → Each xs P
-each_from_zero P [] h = tt
-each_from_zero P (x ∷ xs) h = (h 0 (omega arith), each_from_zero P xs (λ k l. h (suc k) (omega arith)))
-
-moving_last : (f : ℕ) (s : List Point) → ((c : ℕ) → f < c → c ≤ length s → (point_at s c).speed ≡ pos 1) → Each (drop f s) (λ (x : Point). x.speed ≡ pos 1)
-moving_last f s h = each_from_zero _ (drop f s) (λ k l.
-    let t = length-drop f s in
-    subst (λ (x : Point). x.speed ≡ pos 1) (sym (read_drop s f k (f + k) _ refl ∙ sym (point_suc s (f + k)))) (h (suc (f + k)) (omega arith) (omega (arith, l, t))))
-
-moving_all : (n i j : ℕ) (files : List ℕ) (supports : List (List Point)) → Longs n i files supports → Shapes n i supports → EachSupport j files supports (λ j f s. Each (drop f s) (λ (x : Point). x.speed ≡ pos 1))
-moving_all n i j [] [] l w = tt
-moving_all n i j [] (s ∷ supports) l w = absurd l
-moving_all n i j (f ∷ files) [] l w = absurd l
-moving_all n i j (f ∷ files) (s ∷ supports) l w = (
-  (let e = w.0.long in let k = l.0.1 in moving_last f s (λ c a b. corner_speed n i s w.0 c (omega (arith, e, k, a)) (omega (arith, e, b)))),
-  moving_all n (suc i) (suc j) files supports l.1 w.1,
-)
-
+-- ---- corners
 corners_all : (n i j : ℕ) (files : List ℕ) (supports : List (List Point)) → Longs n i files supports → EachSupport j files supports (λ j f s. length s ≡ f + (n + 1))
 corners_all n i j [] [] l = tt
 corners_all n i j [] (s ∷ supports) l = l
@@ -120,10 +100,6 @@ distinct_one : (i : ℕ) (s : List FilePoint) (z : List ℤ) → AreDistinct (ma
 unfolding DistinctAt
 distinct_one i s z a = subst AreDistinct (sym (ap (map (λ (x : Point). x.coordinates)) (taken s (corners i s z)) ∙ map_map (λ (x : Point). x.coordinates) resting s)) a
 
-both_each : {A : Type 0} (P R : A → Type 0) (xs : List A) → Each xs P → Each xs R → Each xs (λ x. P x × R x)
-both_each P R [] h g = tt
-both_each P R (x ∷ xs) h g = ((h.0, g.0), both_each P R xs h.1 g.1)
-
 points_each : (n : ℕ) (xs : List (List FilePoint)) → Each xs (λ s. (length s ≤ 1000) × ArePoints n s) → Each xs (λ s. ArePoints n s)
 points_each n [] h = tt
 points_each n (s ∷ xs) h = (h.0.1, points_each n xs h.1)
@@ -154,7 +130,7 @@ path_valid file v =
       };
       limits = carry WithinAt within_carried 1 files plain (path file).supports same
           (path_each n (λ s. Each s IsWithinFile × ArePoints n s) WithinAt (within_one n v.shape.dimension.1) 1 file.supports (starts_of file) (omega arith) (omega (arith, ns)) parts.count
-          (both_each _ _ file.supports v.limits points) heights small);
+          (each_both _ _ file.supports v.limits points) heights small);
       distinct = carry DistinctAt distinct_carried 1 files plain (path file).supports same
           (path_each n (λ s. AreDistinct (map (λ (x : FilePoint). x.coordinates) s)) DistinctAt (λ i s z l m a e g. distinct_one i s z a) 1 file.supports (starts_of file) (omega arith) (omega (arith, ns)) parts.count
           v.distinct heights small);

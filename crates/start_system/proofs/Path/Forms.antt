@@ -6,7 +6,7 @@ use Rattle.cayley.specs.Problems.{Version, version1, version2, Point, Problem, I
 use Rattle.cayley.specs.Problems.Version.{version1, version2}
 use Rattle.cayley.specs.Files.{FilePoint, File, resting}
 use Rattle.cayley.specs.Paths.{corners, path_supports, path, starts_of}
-use Rattle.cayley.proofs.Algebra.Kernel.{length-map}
+use Rattle.cayley.proofs.Algebra.Dependence.{length-map}
 use Rattle.start_system.proofs.Path.Positions.{from_zero, point_suc}
 use Rattle.start_system.proofs.Path.Reach.{Long}
 use Rattle.start_system.proofs.Path.Shape.{Shapes}

@@ -5,12 +5,13 @@ use Rattle.std.proofs.Math.IntN.{ℤ, pos, ◌+ℤ◌, ◌-ℤ◌, ◌*ℤ◌, n
 use Rattle.int_vectors.specs.Vectors.{weigh, Each, dot, at, add, sub, scale, at_place}
 use Rattle.int_vectors.proofs.Weighing.{weigh-lin}
 use Rattle.wide_int.proofs.Ring.{as_D, Ds, same_D}
+use Rattle.int_vectors.proofs.Entries.{length-scale}
 use Rattle.cayley.specs.Problems.{Point, point_at}
 use Rattle.cayley.specs.Paths.{sum_of}
 use Rattle.cayley.proofs.Algebra.Kernel.{dot_comm, places, weigh_map, weigh-at, length-places}
 use Rattle.cayley.proofs.Algebra.ScaledInverse.{dot-add}
 use Rattle.cayley.proofs.Flipping.Neighbours.{dot-sub}
-use Rattle.cayley.proofs.OneCell.CellNormals.{length-scale, same_long}
+use Rattle.cayley.proofs.OneCell.CellNormals.{same_long}
 use Rattle.start_system.proofs.Path.Shape.{InHull, each_places}
 use Rattle.start_system.proofs.Path.Reach.{Inside}
 

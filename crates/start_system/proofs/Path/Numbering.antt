@@ -3,7 +3,7 @@ use Rattle.std.proofs.Common.{◌≡◌, ◌≢◌, ◌⊎◌, ℕ, zero, suc, �
 use Rattle.std.proofs.lemmas.Bool.{eq-eqb, eqb-true}
 use native.Mathlib.Decide.{ℕ_discrete}
 use Rattle.cayley.specs.Problems.{Point, point_at, with_rank, is_start_corner, numbered}
-use Rattle.cayley.proofs.Algebra.Kernel.{length-map}
+use Rattle.cayley.proofs.Algebra.Dependence.{length-map}
 use Rattle.start_system.proofs.Path.Positions.{from_zero, point_suc, point_mapped}
 
 -- two points that differ in rank alone

@@ -1,9 +1,8 @@
 -- points at positions: of two lists in a row, and of a list in which each point is changed
-use Rattle.std.proofs.Common.{◌≡◌, ℕ, zero, suc, ◌+◌, ◌-◌, ◌<◌, ◌≤◌, List, [], ◌∷◌, ◌++◌, length, map, get_or, take, arith, refl, ap, ◌∙◌}
+use Rattle.std.proofs.Common.{◌≡◌, ℕ, zero, suc, ◌+◌, ◌-◌, ◌<◌, ◌≤◌, List, [], ◌∷◌, ◌++◌, length, map, get_or, arith, refl, ap, ◌∙◌}
 use Rattle.std.proofs.Math.ListN.{get_or-append}
 use Rattle.std.proofs.lemmas.List.{get_or-append-add}
 use Rattle.cayley.specs.Problems.{Point, point_at, origin}
-use Rattle.cayley.proofs.Lists.Each.{read_take}
 
 -- the point at a place, counted from 0
 abbrev pub from_zero : List Point → ℕ → Point
@@ -19,9 +18,6 @@ pub point_right : (xs ys : List Point) (f k : ℕ) → length xs ≡ f → point
 point_right xs ys f k e =
     let o : (f + suc k) - 1 ≡ length xs + k = omega arith in
     ap (λ j. get_or (xs ++ ys) j origin) o ∙ get_or-append-add xs ys k origin
-
-pub point_taken : (f : ℕ) (s : List Point) (c : ℕ) → 1 ≤ c → c ≤ f → point_at (take f s) c ≡ point_at s c
-point_taken f s c l m = read_take s f (c - 1) origin (omega arith)
 
 pub point_mapped : (g : Point → Point) (s : List Point) (c : ℕ) → 1 ≤ c → c ≤ length s → point_at (map g s) c ≡ g (point_at s c)
 point_mapped g s c l m = mapped s (c - 1) (omega arith)

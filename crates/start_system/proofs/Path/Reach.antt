@@ -4,7 +4,7 @@ use Rattle.std.proofs.lemmas.Int.{ints, int_max_is, int_min_is}
 use Rattle.std.proofs.Math.IntN.{ℤ, pos}
 use Rattle.int_vectors.specs.Vectors.{Each, sub}
 use Rattle.cayley.specs.Files.{FilePoint}
-use Rattle.cayley.specs.Paths.{lower, least_coordinates, sum_of, reach}
+use Rattle.cayley.specs.Paths.{lower, least_coordinates, sum_of, simplex_edge}
 
 AtMost : List ℤ → List ℤ → Type 0
 AtMost [] [] = Unit {0}
@@ -72,14 +72,14 @@ differences [] (x ∷ xs) p = absurd p
 differences (m ∷ ms) [] p = absurd p
 differences (m ∷ ms) (x ∷ xs) p = (let a = p.0 in omega (arith, ints), differences ms xs p.1)
 
-reach_one : (m : List ℤ) (points : List FilePoint) → pos 1 ≤ℤ reach m points
+reach_one : (m : List ℤ) (points : List FilePoint) → pos 1 ≤ℤ simplex_edge m points
 reach_one m [] = omega (arith, ints)
-reach_one m (x ∷ points) = let r = reach_one m points in omega (arith, ints, r, int_max_is (sum_of (sub x.coordinates m)) (reach m points))
+reach_one m (x ∷ points) = let r = reach_one m points in omega (arith, ints, r, int_max_is (sum_of (sub x.coordinates m)) (simplex_edge m points))
 
-reach_is : (m : List ℤ) (points : List FilePoint) (d : ℤ) → reach m points ≤ℤ d → Each points (λ x. sum_of (sub x.coordinates m) ≤ℤ d)
+reach_is : (m : List ℤ) (points : List FilePoint) (d : ℤ) → simplex_edge m points ≤ℤ d → Each points (λ x. sum_of (sub x.coordinates m) ≤ℤ d)
 reach_is m [] d l = tt
 reach_is m (x ∷ points) d l =
-    let i = int_max_is (sum_of (sub x.coordinates m)) (reach m points) in
+    let i = int_max_is (sum_of (sub x.coordinates m)) (simplex_edge m points) in
     (omega (arith, ints, i), reach_is m points d (omega (arith, ints, i)))
 
 -- what the hull needs of a file point
@@ -91,10 +91,10 @@ together : (n : ℕ) (m : List ℤ) (d : ℤ) (points : List FilePoint) → Long
 together n m d [] w p q = tt
 together n m d (x ∷ points) w p q = ((w.0, differences m x.coordinates p.0, q.0), together n m d points w.1 p.1 q.1)
 
-pub inside_all : (n : ℕ) (points : List FilePoint) → Long n points → Each points (λ x. Inside n (least_coordinates points) (reach (least_coordinates points) points) x.coordinates)
+pub inside_all : (n : ℕ) (points : List FilePoint) → Long n points → Each points (λ x. Inside n (least_coordinates points) (simplex_edge (least_coordinates points) points) x.coordinates)
 inside_all n points w =
     let m = least_coordinates points in
-    together n m (reach m points) points w (least_is n points w) (reach_is m points (reach m points) (omega (arith, ints)))
+    together n m (simplex_edge m points) points w (least_is n points w) (reach_is m points (simplex_edge m points) (omega (arith, ints)))
 
-pub reach_positive : (m : List ℤ) (points : List FilePoint) → pos 0 <ℤ reach m points
+pub reach_positive : (m : List ℤ) (points : List FilePoint) → pos 0 <ℤ simplex_edge m points
 reach_positive m points = let o = reach_one m points in omega (arith, ints, o)

@@ -3,7 +3,7 @@ use Rattle.std.proofs.Common.{◌≡◌, ◌≢◌, ℕ, zero, suc, ◌+◌, ◌
 use native.Mathlib.Decide.{ℕ_discrete}
 use Rattle.std.proofs.lemmas.Int.{ints}
 use Rattle.std.proofs.Math.IntN.{ℤ, pos, ◌*ℤ◌, neg_ℤ}
-use Rattle.int_vectors.specs.Vectors.{IsPositive, weigh, Each, dot, at, add, at_place}
+use Rattle.int_vectors.specs.Vectors.{weigh, Each, dot, at, add, at_place}
 use Rattle.cayley.specs.Problems.{Point, point_at}
 use Rattle.cayley.specs.Cells.{Cell, EachPair}
 use Rattle.wide_int.proofs.Order.{mul_le_ℤ}
@@ -77,13 +77,6 @@ pairs_of_from i [] (pair ∷ cell) P Q h e = e
 pairs_of_from i (s ∷ supports) [] P Q h e = e
 pairs_of_from i (s ∷ supports) (pair ∷ cell) P Q h e = (h i s pair.0 pair.1 e.0, pairs_of_from (suc i) supports cell P Q h e.1)
 
-pub pair_both : (supports : List (List Point)) (cell : Cell) (P Q R : List Point → ℕ → ℕ → Type 0)
-    → ((s : List Point) (a b : ℕ) → P s a b → Q s a b → R s a b) → EachPair supports cell P → EachPair supports cell Q → EachPair supports cell R
-pair_both [] [] P Q R h d e = tt
-pair_both [] (pair ∷ cell) P Q R h d e = e
-pair_both (s ∷ supports) [] P Q R h d e = e
-pair_both (s ∷ supports) (pair ∷ cell) P Q R h d e = (h s pair.0 pair.1 d.0 e.0, pair_both supports cell P Q R h d.1 e.1)
-
 pub each_places : (P : ℕ → Type 0) (n : ℕ) → ((k : ℕ) → k < n → P k) → Each (places n) P
 each_places P zero h = tt
 each_places P (suc n) h = (h 0 (omega arith), each_map suc P (places n) (each_places (λ k. P (suc k)) n (λ k l. h (suc k) (omega arith))))
@@ -107,10 +100,6 @@ first_not_negative [] h = omega (arith, ints)
 first_not_negative (x ∷ u) (inl (inl p)) = omega (arith, ints)
 first_not_negative (x ∷ u) (inl (inr p)) = let e = p.0 in omega (arith, ints)
 first_not_negative (x ∷ u) (inr z) = let e = z.0 in omega (arith, ints)
-
-pub positive_first : (u : List ℤ) → pos 0 <ℤ at u 0 → IsPositive u
-positive_first [] p = absurd (omega (arith, ints))
-positive_first (x ∷ u) p = inl p
 
 -- a negative number gets less by a positive factor
 pub grows : (q p : ℤ) → pos 0 <ℤ q → p ≤ℤ pos 0 → (q *ℤ p) ≤ℤ p

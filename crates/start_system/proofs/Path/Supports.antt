@@ -6,22 +6,19 @@ use native.Mathlib.Decide.{ℕ_discrete, dec_le}
 use Rattle.int_vectors.specs.Vectors.{Each, add, at_place}
 use Rattle.cayley.specs.Problems.{Point, point_at}
 use Rattle.cayley.specs.Files.{FilePoint, resting}
-use Rattle.cayley.specs.Paths.{least_coordinates, reach, later_corners, direction_corners, corner, corners}
-use Rattle.cayley.proofs.Algebra.Kernel.{length-map}
+use Rattle.cayley.specs.Paths.{least_coordinates, later_corners, direction_corners, corner, corners, simplex_edge}
 use Rattle.cayley.proofs.Algebra.ScaledInverse.{length-add}
+use Rattle.cayley.proofs.Algebra.Dependence.{length-map}
 use Rattle.start_system.proofs.Path.Positions.{from_zero, point_suc, point_left, point_right}
 use Rattle.start_system.proofs.Path.Shape.{Shape}
 use Rattle.start_system.proofs.Path.Reach.{Long, Inside, inside_all, length-least, reach_positive}
 use Rattle.start_system.proofs.Path.Hull.{hull_of}
 use Rattle.start_system.proofs.Path.Numbering.{Reranked}
+use Rattle.start_system.proofs.Making.Entries.{length-place}
 
 -- start heights of at least 1, one for each direction but the own one
 abbrev pub AreHeights : ℕ → List ℤ → Type 0
 AreHeights n starts = (suc (length starts) ≡ n) × Each starts (λ z. pos 1 ≤ℤ z)
-
-length-place : (k : ℕ) (d : ℤ) → length (at_place k d) ≡ suc k
-length-place zero d = refl
-length-place (suc k) d = ap suc (length-place k d)
 
 -- ---- file points
 resting_from_zero : (P : List ℤ → Type 0) (points : List FilePoint) → Each points (λ x. P x.coordinates) → (c : ℕ) → c < length points
@@ -93,15 +90,15 @@ direction_from_zero m d own starts e w k l =
 abbrev plain_support : ℕ → List FilePoint → List ℤ → List Point
 plain_support own points starts =
     let m = least_coordinates points in
-    map resting points ++ corner m (pos 0) ∷ direction_corners m (reach m points) own 0 starts
+    map resting points ++ corner m (pos 0) ∷ direction_corners m (simplex_edge m points) own 0 starts
 
 plain_long : (n i : ℕ) (points : List FilePoint) (starts : List ℤ) → i < n → AreHeights n starts → length (plain_support i points starts) ≡ length points + suc n
 plain_long n i points starts li h =
     let m = least_coordinates points in
-    let x = length-append (map resting points) (corner m (pos 0) ∷ direction_corners m (reach m points) i 0 starts) in
+    let x = length-append (map resting points) (corner m (pos 0) ∷ direction_corners m (simplex_edge m points) i 0 starts) in
     let y = length-map resting points in
     let e = h.0 in
-    let z = length-directions m (reach m points) i 0 starts (omega (arith, e, li)) in
+    let z = length-directions m (simplex_edge m points) i 0 starts (omega (arith, e, li)) in
     omega (arith, x, y, z, e)
 
 plain_shape : (n i : ℕ) (points : List FilePoint) (starts : List ℤ) (s : List Point) → 1 ≤ length points → Long n points → i < n → AreHeights n starts
@@ -109,7 +106,7 @@ plain_shape : (n i : ℕ) (points : List FilePoint) (starts : List ℤ) (s : Lis
 plain_shape n i points starts s some long li heights re =
     let f = length points in
     let m = least_coordinates points in
-    let d = reach m points in
+    let d = simplex_edge m points in
     let xs = map resting points in
     let ys = corner m (pos 0) ∷ direction_corners m d i 0 starts in
     let lm = length-least n points some long in

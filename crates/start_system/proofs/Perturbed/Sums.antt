@@ -8,15 +8,17 @@ use Rattle.cayley.specs.Times.{Time}
 use Rattle.cayley.specs.Problems.{Point, Problem, IsProblem, point_at}
 use Rattle.cayley.specs.Cells.{Cell, EachPair, IsOf, IsIndependent}
 use Rattle.cayley.specs.Normals.{Normal, height, mark, gap, IsNormal}
-use Rattle.cayley.specs.Dependencies.{support_at, pair_at}
+use Rattle.cayley.specs.Dependencies.{pair_at, nth_support}
 use Rattle.wide_int.proofs.Ring.{as_D, Ds, same_D}
 use Rattle.wide_int.proofs.Order.{zero_product}
-use Rattle.cayley.proofs.Algebra.ScaledInverse.{at-add, at-scale, at-comb}
+use Rattle.int_vectors.proofs.Entries.{at-scale, at-add}
+use Rattle.cayley.proofs.Algebra.ScaledInverse.{at-comb}
 use Rattle.cayley.proofs.Algebra.RowNormals.{sum_is_gap, at-zero}
-use Rattle.cayley.proofs.OneCell.CellNormals.{edges, rises, length-rises, normal_from, rows_independent, long_rows}
+use Rattle.cayley.proofs.OneCell.CellNormals.{rises, length-rises, normal_from, rows_independent, long_rows}
 use Rattle.cayley.proofs.OneCell.CellLines.{a_dependency, ADependency, base_of, height-at}
 use Rattle.cayley.proofs.Flipping.Neighbours.{dot-sub}
-use Rattle.start_system.proofs.Early.Values.{at-sub}
+use Rattle.cayley.specs.Rows.{edges}
+use Rattle.cayley.proofs.OneCell.OneDependency.{minus-at}
 use Rattle.start_system.proofs.Perturbed.Ranks.{AtPlace}
 use Rattle.start_system.proofs.Perturbed.Functionals.{Test, same_number, same_one, same_none, of_rank, coordinate, only_at, Functional}
 
@@ -85,7 +87,7 @@ steps-rises : (bs : List ℤ) (i : ℕ) (t : Time) (supports : List (List Point)
 steps-rises [] i t supports cell e = refl
 steps-rises (b ∷ bs) i t [] cell e = refl
 steps-rises (b ∷ bs) i t (s ∷ supports) [] e = refl
-steps-rises (b ∷ bs) i t (s ∷ supports) (x ∷ cell) e = ap₂ (λ u v. b *ℤ u +ℤ v) (at-sub (height t (point_at s x.1)) (height t (point_at s x.0)) e) (steps-rises bs (suc i) t supports cell e)
+steps-rises (b ∷ bs) i t (s ∷ supports) (x ∷ cell) e = ap₂ (λ u v. b *ℤ u +ℤ v) (minus-at (height t (point_at s x.1)) (height t (point_at s x.0)) e) (steps-rises bs (suc i) t supports cell e)
 
 -- the indicator of a position that isn't of the cell
 steps-past : (bs : List ℤ) (i k d : ℕ) (supports : List (List Point)) (cell : Cell) → k < i → sum_steps bs i supports cell (only_at k d) ≡ pos 0
@@ -143,7 +145,7 @@ height_entry t e i s c = height-at t (point_at s c) e ∙ ap (λ x. t.over *ℤ 
 
 module _ (p : Problem) (well : IsProblem p) (cell : Cell) (of : IsOf p cell) (ind : IsIndependent p cell) (j c : ℕ) where
   abbrev pub here : List Point
-  here = support_at p.supports j
+  here = nth_support p.supports j
 
   abbrev pub first_of : ℕ
   first_of = (pair_at cell j).0
@@ -185,7 +187,7 @@ module _ (p : Problem) (well : IsProblem p) (cell : Cell) (of : IsOf p cell) (in
       let zero_sum : at S e ≡ pos 0 = elim (zero_product v.over (at S e) r) [ inl i ↦ absurd (omega (arith, ints, i, pv)) | inr i ↦ i ] in
       let total : at S e ≡ T H =
       at-add (comb numbers.bs (rises t p.supports cell)) (scale numbers.g (sub (height t d) (height t a))) e
-      ∙ ap₂ ◌+ℤ◌ (at-comb numbers.bs (rises t p.supports cell) e ∙ steps-rises numbers.bs 0 t p.supports cell e) (at-scale numbers.g (sub (height t d) (height t a)) e ∙ ap (λ x. numbers.g *ℤ x) (at-sub (height t d) (height t a) e)) in
+      ∙ ap₂ ◌+ℤ◌ (at-comb numbers.bs (rises t p.supports cell) e ∙ steps-rises numbers.bs 0 t p.supports cell e) (at-scale numbers.g (sub (height t d) (height t a)) e ∙ ap (λ x. numbers.g *ℤ x) (minus-at (height t d) (height t a) e)) in
       sym (T-all H (λ i s c. t.over *ℤ base_entry e i s c +ℤ at t.entries e *ℤ speed_of i s c) (height_entry t e) ∙ T-lin t.over (at t.entries e) (base_entry e) speed_of) ∙ sym total ∙ zero_sum
 
   pub rank_base : (e : ℕ) → T (of_rank (suc e)) ≡ T (base_entry (suc e))

@@ -8,13 +8,11 @@ use Rattle.cayley.specs.Times.{Time, IsBefore}
 use Rattle.cayley.specs.Problems.{version2, Point, Problem, IsProblem, point_at, numbered_supports, ranked_supports}
 use Rattle.cayley.specs.Cells.{Cell, IsOf, IsIndependent}
 use Rattle.cayley.specs.Normals.{Normal, IsNormal}
-use Rattle.cayley.specs.Dependencies.{support_at, pair_at}
+use Rattle.cayley.specs.Dependencies.{pair_at, nth_support}
 use Rattle.cayley.specs.Ties.{IsLevelAt, IsTieFree}
 use Rattle.wide_int.proofs.Ring.{as_D, Ds, same_D}
 use Rattle.wide_int.proofs.Order.{zero_product}
-use Rattle.cayley.proofs.Algebra.ScaledInverse.{at-add, at-scale}
-use Rattle.cayley.proofs.Algebra.RowDependencies.{zero-at}
-use Rattle.cayley.proofs.Order.Lexicographic.{not_zero}
+use Rattle.int_vectors.proofs.Entries.{at-scale, at-add, zero_from, not_zero}
 use Rattle.cayley.proofs.Order.Lines.{later}
 use Rattle.cayley.proofs.Order.Times.{same_sym}
 use Rattle.cayley.proofs.Flipping.Places.{pairs_long, further_bound, place_of}
@@ -32,7 +30,7 @@ Apart supports = (k m : ℕ) (s t : List Point) (c d : ℕ) → AtPlace supports
 abbrev Starts : ℕ → List (List Point) → Type 0
 Starts n supports = (k : ℕ) (s : List Point) (c : ℕ) → AtPlace supports k s c → (point_at s c).rank ≡ 0 → (c ≡ length s - n) ⊎ (c ≡ (length s - n) + suc k)
 
-in_at : (supports : List (List Point)) (j : ℕ) → j < length supports → InAt supports j (support_at supports j)
+in_at : (supports : List (List Point)) (j : ℕ) → j < length supports → InAt supports j (nth_support supports j)
 in_at [] j l = absurd (omega arith)
 in_at (s ∷ supports) zero l = refl
 in_at (s ∷ supports) (suc j) l = in_at supports j (omega arith)
@@ -41,13 +39,13 @@ module _ (p : Problem) (well : IsProblem p) (shapes : Shapes p.dimension 0 p.sup
   level_bound : (t : Time) (v : Normal) (j c : ℕ) → IsLevelAt p cell t v j c → suc j ≤ length cell
   level_bound t v j c l = further_bound p.supports cell j c (pairs_long p.supports cell _ of) l.0
 
-  level_in : (t : Time) (v : Normal) (j c : ℕ) → IsLevelAt p cell t v j c → InAt p.supports j (support_at p.supports j)
+  level_in : (t : Time) (v : Normal) (j c : ℕ) → IsLevelAt p cell t v j c → InAt p.supports j (nth_support p.supports j)
   level_in t v j c l = in_at p.supports j (let b = level_bound t v j c l in let e = pairs_long p.supports cell _ of in omega (arith, b, e))
 
-  level_c : (t : Time) (v : Normal) (j c : ℕ) → IsLevelAt p cell t v j c → AtPlace p.supports j (support_at p.supports j) c
+  level_c : (t : Time) (v : Normal) (j c : ℕ) → IsLevelAt p cell t v j c → AtPlace p.supports j (nth_support p.supports j) c
   level_c t v j c l = (level_in t v j c l, l.0.0, l.0.1)
 
-  level_first : (t : Time) (v : Normal) (j c : ℕ) → IsLevelAt p cell t v j c → AtPlace p.supports j (support_at p.supports j) (pair_at cell j).0
+  level_first : (t : Time) (v : Normal) (j c : ℕ) → IsLevelAt p cell t v j c → AtPlace p.supports j (nth_support p.supports j) (pair_at cell j).0
   level_first t v j c l =
       let h = place_of (λ s a b. (1 ≤ a) × (a < b) × (b ≤ length s)) p.supports cell of j (level_bound t v j c l) in
       (level_in t v j c l, h.0, (let x = h.1 in let y = h.2 in omega (arith, x, y)))
@@ -91,7 +89,7 @@ module _ (p : Problem) (well : IsProblem p) (shapes : Shapes p.dimension 0 p.sup
       let o = t.positive in
       let q : t.over *ℤ S j c (base_entry (suc e)) ≡ pos 0 = omega (arith, ints, a, b) in
       S-rank j c e ∙ elim (zero_product t.over (S j c (base_entry (suc e))) q) [ inl i ↦ absurd (omega (arith, ints, i, o)) | inr i ↦ i ]) in
-      let f = only_zero p.supports p.dimension (S j c) (S-functional t v j c l) ranks apart shapes well.supports starts j (support_at p.supports j) c (level_c t v j c l) in
+      let f = only_zero p.supports p.dimension (S j c) (S-functional t v j c l) ranks apart shapes well.supports starts j (nth_support p.supports j) c (level_c t v j c l) in
       let g = S-own t v j c l in
       let h = g_positive j c in
       omega (arith, ints, f, g, h)
@@ -99,7 +97,7 @@ module _ (p : Problem) (well : IsProblem p) (shapes : Shapes p.dimension 0 p.sup
   not_twice : (t u : Time) (v w : Normal) (j c : ℕ) → IsNormal p cell t v → IsNormal p cell u w → IsLevelAt p cell t v j c → IsLevelAt p cell u w j c → IsBefore t u ⊎ IsBefore u t → ⊥
   not_twice t u v w j c iv iw l k before = elim (ℤ_discrete (S j c speed_of) (pos 0)) [
     | yes z ↦ moving t v j c iv l z
-    | no n ↦ apart_times before (zero-at (later t u) (λ e.
+    | no n ↦ apart_times before (zero_from (later t u) (λ e.
         let a = sums t v j c iv l e in
         let b = sums u w j c iw k e in
         let r = ring t.over u.over (S j c (base_entry e)) (S j c speed_of) (at t.entries e) (at u.entries e) in
@@ -155,7 +153,7 @@ module _ (p : Problem) (well : IsProblem p) (shapes : Shapes p.dimension 0 p.sup
       let q : t.over *ℤ (S k d speed_of *ℤ S j c (base_entry (suc e)) +ℤ neg_ℤ (S j c speed_of) *ℤ S k d (base_entry (suc e))) ≡ pos 0 = omega (arith, ints, r, ra, rb) in
       ap₂ (λ u w. S k d speed_of *ℤ u +ℤ neg_ℤ (S j c speed_of) *ℤ w) (S-rank j c e) (S-rank k d e)
       ∙ elim (zero_product t.over _ q) [ inl i ↦ absurd (omega (arith, ints, i, o)) | inr i ↦ i ]) in
-      let f = only_zero p.supports p.dimension (mix j c k d) (mix_functional t v j c k d l m) ranks apart shapes well.supports starts j (support_at p.supports j) c (level_c t v j c l) in
+      let f = only_zero p.supports p.dimension (mix j c k d) (mix_functional t v j c k d l m) ranks apart shapes well.supports starts j (nth_support p.supports j) c (level_c t v j c l) in
       let g = ap (λ x. S k d speed_of *ℤ x) (S-own t v j c l) in
       let h = ap (λ x. neg_ℤ (S j c speed_of) *ℤ x) (S-other t v k d j c l (turned_round n)) ∙ *ℤ-zero (neg_ℤ (S j c speed_of)) in
       let gp = g_positive j c in

@@ -1,21 +1,20 @@
 -- the laws of paths and of started problems
-use Rattle.std.proofs.Common.{◌≡◌, ℕ, zero, suc, ◌+◌, ◌-◌, ◌<◌, ◌≤◌, List, [], ◌∷◌, Some, length, map, take, length-take, arith, refl, sym, ap, subst, ◌∙◌, inl, inr, ◌≤ℤ◌}
+use Rattle.std.proofs.Common.{◌≡◌, ℕ, zero, suc, ◌+◌, ◌-◌, ◌≤◌, List, [], ◌∷◌, Some, length, map, take, length-take, arith, refl, sym, ap, subst, ◌∙◌, inl, inr, ◌≤ℤ◌}
 use Rattle.std.proofs.Math.IntN.{ℤ, pos}
 use Rattle.int_vectors.specs.Vectors.{Each}
-use Rattle.cayley.specs.Problems.{Point, Problem, EachSupport, HasCorners, IsStill, point_at, first_points}
+use Rattle.cayley.specs.Problems.{Point, Problem, EachSupport, HasCorners, first_points}
 use Rattle.cayley.specs.Files.{FilePoint, File}
 use Rattle.cayley.specs.Stored.{held}
 use Rattle.cayley.specs.Paths.{path, starts_of}
 use Rattle.cayley.specs.Valid.{HasProblemShape}
-use Rattle.cayley.proofs.Algebra.Kernel.{length-map}
 use Rattle.cayley.proofs.Lists.Each.{each_weaker}
+use Rattle.cayley.proofs.Algebra.Dependence.{length-map}
 use Rattle.start_system.specs.Started.{AreStarts, file_with, IsStarted, IsSearched}
 use Rattle.start_system.specs.Laws.{StartedLaw, PathLaw}
-use Rattle.start_system.proofs.Path.Positions.{from_zero, point_suc}
 use Rattle.start_system.proofs.Path.Reach.{Long}
-use Rattle.start_system.proofs.Path.Shape.{Shapes}
 use Rattle.start_system.proofs.Path.Supports.{AreHeights}
-use Rattle.start_system.proofs.Path.Forms.{Longs, HasForm, IsLift, path_form}
+use Rattle.start_system.proofs.Path.Forms.{HasForm, IsLift, path_form}
+use Rattle.start_system.proofs.Path.Still.{form_still}
 use Rattle.start_system.proofs.Complete.Shares.{only_early, start_of, tree_size, all_mixed, all_alive}
 use Rattle.start_system.proofs.Perturbed.TieFree.{version2_tie_free}
 use Rattle.start_system.proofs.Started.Heights.{valid_lift}
@@ -105,27 +104,6 @@ path_started file w = (starts_of file, (w.starts, starts_from file.dimension (st
   where
     is : path file ≡ path (file_with (path file) (starts_of file))
     is = sym (ap (λ (ss : List (List FilePoint)). path (record { version = file.version; dimension = file.dimension; supports = ss; starts = Some (starts_of file) })) (path_held file))
-
--- its file points rest
-still_first : (f : ℕ) (s : List Point) → ((c : ℕ) → 1 ≤ c → c ≤ f → (point_at s c).speed ≡ pos 0) → Each (take f s) (λ (x : Point). x.speed ≡ pos 0)
-still_first f s h = from f s (λ k l. subst (λ (x : Point). x.speed ≡ pos 0) (point_suc s k) (h (suc k) (omega arith) (omega arith)))
-  where
-    from : (f : ℕ) (s : List Point) → ((k : ℕ) → k < f → (from_zero s k).speed ≡ pos 0) → Each (take f s) (λ (x : Point). x.speed ≡ pos 0)
-    from zero s h = tt
-    from (suc f) [] h = tt
-    from (suc f) (x ∷ s) h = (h 0 (omega arith), from f s (λ k l. h (suc k) (omega arith)))
-
-still_all : (n i j : ℕ) (files : List ℕ) (supports : List (List Point)) → Longs n i files supports → Shapes n i supports → EachSupport j files supports (λ j f s. Each (take f s) (λ (x : Point). x.speed ≡ pos 0))
-still_all n i j [] [] l w = tt
-still_all n i j [] (s ∷ supports) l w = absurd l
-still_all n i j (f ∷ files) [] l w = absurd l
-still_all n i j (f ∷ files) (s ∷ supports) l w = (
-  still_first f s (λ c a b. w.0.file c a (let e = w.0.long in let k = l.0.1 in omega (arith, e, k, b))),
-  still_all n (suc i) (suc j) files supports l.1 w.1,
-)
-
-pub form_still : (p : Problem) → HasForm p → IsStill p
-form_still p w = still_all p.dimension 0 1 p.files p.supports w.long w.shapes
 
 pub path_law : PathLaw
 path_law file valid =

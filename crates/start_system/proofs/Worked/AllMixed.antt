@@ -1,32 +1,27 @@
 -- Three points on a line: the path meets the premises of the law of started problems, and its mixed cells are 1 2 and 2 3.
-use Rattle.std.proofs.Common.{◌≡◌, ◌↔◌, ◌⊎◌, ℕ, zero, suc, [], ◌∷◌, map, take, arith, refl, sym, ap, subst, inl, inr, Contains}
+use Rattle.std.proofs.Common.{◌≡◌, ◌↔◌, ◌⊎◌, zero, suc, [], ◌∷◌, map, take, arith, refl, sym, ap, subst, inl, inr, Contains}
 use Rattle.std.proofs.lemmas.Int.{ints}
 use Rattle.int_vectors.specs.Vectors.{at}
 use Rattle.cayley.specs.Times.{Time}
 use Rattle.cayley.specs.Problems.{Point}
-use Rattle.cayley.specs.Paths.{path}
 use Rattle.cayley.specs.Valid.{AreDistinct, IsValidProblem}
 use Rattle.cayley.specs.Cells.{Cell, IsListOf}
 use Rattle.cayley.specs.Mixed.{IsAlive, IsMixedCell}
-use Rattle.cayley.specs.Dependencies.{support_at, pair_at}
 use Rattle.cayley.specs.Shares.{IsShare}
 use Rattle.cayley.proofs.Searching.Listing.{Has}
 use Rattle.cayley.proofs.Searching.Members.{contains_has, has_contains}
-use Rattle.cayley.proofs.Worked.ThreePoints.{three_points, three, three_path, three_well, three_share, three_tree, start, start_early, left_mixed, right_mixed, left_mixed_is_mixed, right_mixed_is_mixed, tree}
+use Rattle.cayley.proofs.Worked.ThreePoints.{three, three_well, three_share, three_tree, start, start_early, left_mixed, right_mixed, left_mixed_is_mixed, right_mixed_is_mixed, tree}
+use Rattle.cayley.specs.Dependencies.{nth_support}
 use Rattle.start_system.specs.Started.{IsStarted, IsSearched, FindsAllMixed, start_branch}
 use Rattle.start_system.proofs.Started.SearchLaws.{started_law}
 use Rattle.start_system.proofs.Worked.TieFree.{three_tie_free}
-
--- the path of the three points is the problem
-path_is : path three_points ≡ three
-path_is = three_path
 
 -- it is started, with no start heights in its one support
 three_started : IsStarted three
 three_started = ([] ∷ [], (refl, ((refl, tt), tt)), refl)
 
 -- no two of its file points are in one place
-apart : AreDistinct (map (λ (x : Point). x.coordinates) (take 3 (support_at three.supports 0)))
+apart : AreDistinct (map (λ (x : Point). x.coordinates) (take 3 (nth_support three.supports 0)))
 apart zero zero l m e = omega (arith, l)
 apart zero (suc zero) l m e = let q = ap (λ xs. at xs 0) e in omega (arith, ints, q)
 apart zero (suc (suc zero)) l m e = let q = ap (λ xs. at xs 0) e in omega (arith, ints, q)
@@ -108,19 +103,6 @@ mixed_cells cell =
       (λ h. elim (contains_has (left_mixed ∷ right_mixed ∷ []) cell (is.1 h)) [ inl e ↦ inl e | inr (inl e) ↦ inr e | inr (inr e) ↦ absurd e ]),
       (λ h. is.0 (has_contains (left_mixed ∷ right_mixed ∷ []) cell (elim h [ inl e ↦ inl e | inr e ↦ inr (inl e) ]))),
     )
-
--- so 1 3 isn't, since the search doesn't meet it
-outer_not_mixed : ¬ (IsMixedCell three ((1, 3) ∷ []))
-outer_not_mixed h = elim ((mixed_cells ((1, 3) ∷ [])).0 h) [
-  | inl e ↦ let k = ap second_of e in omega (arith, k)
-  | inr e ↦ let k = ap first_of e in omega (arith, k)
-]
-  where
-    first_of : Cell → ℕ
-    first_of cell = (pair_at cell 0).0
-
-    second_of : Cell → ℕ
-    second_of cell = (pair_at cell 0).1
 
 -- a cell that is alive at some time is one of the five of the path tree
 alive_cells : (cell : Cell) (t : Time) → IsAlive three cell t → Contains tree cell

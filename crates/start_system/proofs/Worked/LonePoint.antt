@@ -8,11 +8,12 @@ use Rattle.cayley.specs.Problems.Version.{version1}
 use Rattle.cayley.specs.Files.{File}
 use Rattle.cayley.specs.Paths.{path}
 use Rattle.cayley.specs.Valid.{IsValidProblem}
-use Rattle.cayley.specs.Cells.{Cell, IsListOf}
+use Rattle.cayley.specs.Cells.{IsListOf}
 use Rattle.cayley.specs.Mixed.{IsMixedCell}
 use Rattle.cayley.specs.Shares.{IsShare}
 use Rattle.cayley.specs.Ties.{IsUntied, IsTieFree}
 use Rattle.cayley.proofs.Searching.Members.{contains_has}
+use Rattle.cayley.proofs.Worked.OnePoint.{none_mixed}
 use Rattle.start_system.specs.Started.{IsStarted, IsSearched, start_branch}
 use Rattle.start_system.proofs.Started.SearchLaws.{started_law}
 use Rattle.start_system.proofs.Worked.OneSupport.{on_a_line, over, untied_by}
@@ -109,11 +110,6 @@ lone_tie_free (x ∷ []) t v h =
     subst (λ b. Untied x.0 b) e (pairs x.0 (x.1 - suc x.0) o (omega (arith, p, q))) t v h
 
 -- one point has no pair, so no cell is mixed
-none_mixed : (cell : Cell) → ¬ (IsMixedCell lone cell)
-none_mixed [] h = h.0
-none_mixed (x ∷ []) h = let o = h.0.0 in let a = o.0 in let b = o.1 in let c = o.2 in omega (arith, a, b, c)
-none_mixed (x ∷ y ∷ cell) h = h.0.1
-
 lone_mixed : IsListOf (IsMixedCell lone) []
 lone_mixed = (tt, λ cell. ((λ h. absurd (contains_has [] cell h)), (λ h. absurd (none_mixed cell h))))
 

@@ -3,20 +3,20 @@ use Rattle.std.proofs.Common.{◌≡◌, ◌≢◌, ℕ, zero, suc, ◌≤◌, L
 use Rattle.std.proofs.lemmas.Int.{ints}
 use Rattle.std.proofs.Math.IntN.{ℤ, pos, ◌+ℤ◌, ◌*ℤ◌}
 use Rattle.int_vectors.specs.Vectors.{Each, IsZero, at}
+use Rattle.int_vectors.proofs.Entries.{at-scale, at-add}
 use Rattle.cayley.specs.Times.{Time}
 use Rattle.cayley.specs.Problems.{Point, Problem, IsProblem, point_at}
 use Rattle.cayley.specs.Problems.Version.{version1}
 use Rattle.cayley.specs.Cells.{Cell, IsOf, IsIndependent, IsFurther}
 use Rattle.cayley.specs.Normals.{Normal, IsNormal, NoneBelow}
-use Rattle.cayley.specs.Dependencies.{support_at}
 use Rattle.cayley.specs.Ties.{IsLevelAt, IsUntied}
-use Rattle.cayley.proofs.Algebra.ScaledInverse.{at-add, at-scale}
 use Rattle.cayley.proofs.Algebra.RowNormals.{at-zero}
 use Rattle.cayley.proofs.Order.Lines.{Line, line_at}
 use Rattle.cayley.proofs.Order.Spans.{two_zeros}
 use Rattle.cayley.proofs.Searching.Listing.{Has}
 use Rattle.cayley.proofs.OneCell.MovingNormals.{Moving, IsFrame, wall}
 use Rattle.cayley.proofs.OneCell.MovingWalls.{wall_above, wall_level}
+use Rattle.cayley.specs.Dependencies.{nth_support}
 use Rattle.start_system.proofs.Path.Shape.{first_not_negative}
 
 -- a problem of one support, of which so many are file points
@@ -30,7 +30,7 @@ value l q x = q *ℤ at l.start 0 +ℤ l.slope *ℤ x
 value_is : (l : Line) (t : Time) → at (line_at l t) 0 ≡ value l t.over (at t.entries 0)
 value_is l t = simp (at-add, at-scale) refl
 
-only_place : (s : List Point) (i e : ℕ) → 1 ≤ e → e ≤ length (support_at (s ∷ []) i) → i ≡ 0
+only_place : (s : List Point) (i e : ℕ) → 1 ≤ e → e ≤ length (nth_support (s ∷ []) i) → i ≡ 0
 only_place s zero e p q = refl
 only_place s (suc i) e p q = absurd (omega (arith, p, q))
 

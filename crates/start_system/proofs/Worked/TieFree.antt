@@ -5,14 +5,14 @@ use Rattle.std.proofs.Math.IntN.{pos, negsuc}
 use native.Mathlib.Decide.{ℕ_discrete}
 use Rattle.cayley.specs.Times.{Time}
 use Rattle.cayley.specs.Problems.{Point}
-use Rattle.cayley.specs.Dependencies.{support_at}
 use Rattle.cayley.specs.Ties.{IsUntied, IsTieFree}
 use Rattle.cayley.proofs.Searching.Listing.{Has}
 use Rattle.cayley.proofs.Worked.ThreePoints.{three, three_well}
+use Rattle.cayley.specs.Dependencies.{nth_support}
 use Rattle.start_system.proofs.Worked.OneSupport.{over, untied_by}
 
 abbrev points : List Point
-points = support_at three.supports 0
+points = nth_support three.supports 0
 
 Untied : ℕ → ℕ → Type 0
 Untied a b = (t : Time) → IsUntied three ((a, b) ∷ []) t

@@ -6,11 +6,11 @@ use Rattle.cayley.specs.Problems.{Point}
 use Rattle.cayley.specs.Valid.{AreDistinct, IsValidProblem}
 use Rattle.cayley.specs.Cells.{Cell, IsListOf}
 use Rattle.cayley.specs.Mixed.{IsMixedCell}
-use Rattle.cayley.specs.Dependencies.{support_at}
 use Rattle.cayley.specs.Shares.{IsShare}
 use Rattle.cayley.proofs.Searching.Listing.{Has}
 use Rattle.cayley.proofs.Searching.Members.{contains_has, has_contains}
 use Rattle.cayley.proofs.Worked.TwoPoints.{two, two_well, two_tie_free, mixed, mixed_is_mixed}
+use Rattle.cayley.specs.Dependencies.{nth_support}
 use Rattle.start_system.specs.Started.{IsStarted, IsSearched, start_branch}
 use Rattle.start_system.proofs.Started.SearchLaws.{started_law}
 
@@ -19,7 +19,7 @@ two_started : IsStarted two
 two_started = ([] ∷ [], (refl, ((refl, tt), tt)), refl)
 
 -- its file points are in two places
-apart : AreDistinct (map (λ (x : Point). x.coordinates) (take 2 (support_at two.supports 0)))
+apart : AreDistinct (map (λ (x : Point). x.coordinates) (take 2 (nth_support two.supports 0)))
 apart zero zero l m e = omega (arith, l)
 apart zero (suc zero) l m e = let q = ap (λ xs. at xs 0) e in omega (arith, ints, q)
 apart zero (suc (suc k)) l m e = omega (arith, m)

@@ -4,9 +4,10 @@ use Rattle.std.proofs.lemmas.Int.{ints}
 use Rattle.wide_int.specs.Whole.{FitsWhole}
 use Rattle.int_vectors.specs.Fits.{AllFit}
 use Rattle.int_vectors.specs.Vectors.{sub}
+use Rattle.int_vectors.proofs.DifferenceSums.{long_sub}
 use Rattle.cayley.specs.Rows.{edge_row, unit_row}
 use Rattle.cayley.specs.Stored.{point}
-use Rattle.cayley.proofs.OneCell.EdgeRows.{row_joined, row_long, length-sub, edge_fits}
+use Rattle.cayley.proofs.OneCell.EdgeRows.{row_joined, row_long, edge_fits}
 use Rattle.cayley.proofs.rows.entries_of.Goals as goal
 
 pub push_unit-requires-clause-short : goal.push_unit-requires-clause-short
@@ -17,7 +18,7 @@ push_unit-requires-clause-short c =
     let q = ap (length {A = ℤ}) c.as_slice-2.ensures.value in
     let a = c.requires.a_fits.0 in
     let b = c.requires.b_fits.0 in
-    let d = length-sub c.as_slice.result.now c.as_slice-2.result.now (omega arith) in
+    let d = long_sub c.as_slice.result.now c.as_slice-2.result.now (omega arith) in
     let m = c.requires.dim in
     omega arith
 

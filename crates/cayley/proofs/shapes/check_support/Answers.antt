@@ -1,12 +1,13 @@
 use Rattle.std.proofs.Common.{◌≡◌, arith, refl, inr, ◌∙◌, sym, true, false}
 use Rattle.std.specs.Prelude.{IsTrue}
 use Rattle.std.specs.BTreeSet.{contains}
+use Rattle.wide_int.proofs.Bools.{not_true}
 use Rattle.cayley.specs.Stored.{file_point}
 use Rattle.cayley.specs.Valid.{IsWithinFile}
 use Rattle.cayley.proofs.Refusals.FileFaults.{coords_of, coords_here, within_not_outside, is_repeat, sound_more}
 use Rattle.cayley.proofs.Refusals.Repeats.{key_cmp, keeps_more}
 use Rattle.cayley.proofs.shapes.check_support.Goals as goal
-use Rattle.cayley.proofs.Lists.Each.{not_false, not_true, no_both}
+use Rattle.cayley.proofs.Lists.Each.{not_false, no_both}
 
 pub returns-in-Ok-false : goal.returns-in-Ok-false
 returns-in-Ok-false c =

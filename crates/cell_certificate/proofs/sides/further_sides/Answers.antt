@@ -1,7 +1,8 @@
 use Rattle.std.proofs.Common.{map}
+use Rattle.wide_int.proofs.Turns.{next_all}
 use Rattle.cell_certificate.specs.Sides.{seen}
 use Rattle.cell_certificate.specs.Sums.{FitsAt, RisesAt, UntiedAt}
-use Rattle.cell_certificate.proofs.Turns.{next_all, next_test}
+use Rattle.cell_certificate.proofs.Turns.{next_test}
 use Rattle.cell_certificate.proofs.sides.further_sides.Goals as goal
 
 pub loop-place-preserved : goal.loop-place-preserved

@@ -1,8 +1,9 @@
-use Rattle.std.proofs.Common.{rules, ◌≡◌, ◌-◌, ◌+◌, ◌∙◌, ◌≤◌, ◌<◌, ℕ, length, arith, refl, sym, subst}
+use Rattle.std.proofs.Common.{rules, ◌≡◌, ◌-◌, ◌+◌, ◌∙◌, ◌≤◌, ℕ, arith, sym}
+use Rattle.wide_int.proofs.Turns.{next_below}
 use Rattle.cell_certificate.specs.Ties.{FitsTieAt, IsOverAt}
 use Rattle.cell_certificate.proofs.PointOver.{all_ties, all_over}
 use Rattle.cell_certificate.proofs.Spots.{fault_of_more}
-use Rattle.cell_certificate.proofs.Turns.{next_below, next_test_below}
+use Rattle.cell_certificate.proofs.Turns.{next_test_below}
 use Rattle.cell_certificate.proofs.ties.are_over.Goals.{then-own, else-own}
 use Rattle.cell_certificate.proofs.ties.are_over.Goals as goal
 

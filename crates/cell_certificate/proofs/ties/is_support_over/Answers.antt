@@ -1,8 +1,9 @@
-use Rattle.std.proofs.Common.{rules, ◌≡◌, [], get_or, ◌-◌, ◌+◌, ◌∙◌, ◌≤◌, length, arith, refl, sym}
+use Rattle.std.proofs.Common.{rules, ◌≡◌, [], get_or, ◌-◌, ◌+◌, ◌∙◌, ◌≤◌, length, arith, sym}
+use Rattle.wide_int.proofs.Turns.{next_all}
 use Rattle.cell_certificate.specs.Ties.{FitsTieAt, IsOverAt}
 use Rattle.cell_certificate.proofs.PointOver.{every_tie, every_over}
 use Rattle.cell_certificate.proofs.Spots.{fault_of_more}
-use Rattle.cell_certificate.proofs.Turns.{next_all, next_test}
+use Rattle.cell_certificate.proofs.Turns.{next_test}
 use Rattle.cell_certificate.proofs.ties.is_support_over.Goals.{then-own, else-own}
 use Rattle.cell_certificate.proofs.ties.is_support_over.Goals as goal
 

@@ -1,6 +1,7 @@
 use Rattle.std.proofs.Common.{rules, ◌≡◌, ◌≢◌, [], ◌∙◌, length, sym}
 use Rattle.std.proofs.lemmas.List.{nil_from_length}
 use Rattle.std.proofs.lemmas.Result.{err_from_is_err_and}
+use Rattle.inner_normal.proofs.Meaning.{inverse_shape}
 use Rattle.cone_walls.proofs.Fining.{with_nothing, with_none, no_inverse, no_circuit, with_parts}
 use Rattle.cone_walls.proofs.fines.with_fines.Goals as goal
 
@@ -16,8 +17,13 @@ returns-then-is_empty c =
     let e : c.args.lines.items ≡ [] = nil_from_length c.args.lines.items z in
     with_none c.args.problem.now c.args.cell.now c.dim-dim.ensures.valid c.args.eliminated.now r.cell c.args.lines.items r.places r.points e r.fit
 
-pub refine_all-requires-clause-inverse : goal.refine_all-requires-clause-inverse
-refine_all-requires-clause-inverse c = (c.args.eliminated.now, c.requires.answer, c.in_ok-inverse.ensures.1)
+pub refine_all-requires-clause-count : goal.refine_all-requires-clause-count
+refine_all-requires-clause-count c =
+    (inverse_shape c.args.problem.now c.args.cell.now c.dim-dim.ensures.valid.shape.problem c.requires.cell c.in_ok-inverse.inverse (c.args.eliminated.now, c.requires.answer, c.in_ok-inverse.ensures.1)).0
+
+pub refine_all-requires-clause-columns : goal.refine_all-requires-clause-columns
+refine_all-requires-clause-columns c =
+    (inverse_shape c.args.problem.now c.args.cell.now c.dim-dim.ensures.valid.shape.problem c.requires.cell c.in_ok-inverse.inverse (c.args.eliminated.now, c.requires.answer, c.in_ok-inverse.ensures.1)).1
 
 pub returns-in_err-inverse : goal.returns-in_err-inverse
 returns-in_err-inverse c =

@@ -1,8 +1,9 @@
 use Rattle.std.proofs.Common.{rules, ◌+◌}
 use Rattle.std.proofs.lemmas.Result.{err_from_is_err_and}
+use Rattle.wide_int.proofs.Turns.{next_all}
 use Rattle.cayley.specs.Valid.{support_at}
 use Rattle.cone_walls.specs.Workings.{FitsPoint, FitsSupport}
-use Rattle.cone_walls.proofs.Pushing.{fault_by, more_lines, more_fit}
+use Rattle.cone_walls.proofs.Pushing.{fault_by, more_lines}
 use Rattle.cone_walls.proofs.lines.push_other_lines.Goals as goal
 
 pub returns-in_err-push_line-clause-made : goal.returns-in_err-push_line-clause-made
@@ -21,6 +22,6 @@ loop-index-preserved c =
     let e = c.in_ok-push_line.ensures in
     record {
       made = more_lines m c.args.i s c.args.pair.0 c.args.pair.1 k c.loop-index.lines.items c.push_line.new.lines.items _ (search rules) i.made e.made.1;
-      fits = more_fit (FitsPoint m s c.args.pair.0 c.args.pair.1) k i.fits e.made.0;
+      fits = next_all (FitsPoint m s c.args.pair.0 c.args.pair.1) k i.fits e.made.0;
       fit = e.fit;
     }

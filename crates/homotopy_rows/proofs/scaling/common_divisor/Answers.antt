@@ -4,8 +4,9 @@ use Rattle.wide_int.proofs.CommonDivisors.{gcd_above}
 use Rattle.wide_int.proofs.Signed.{nonneg_fits}
 use Rattle.wide_int.specs.Whole.{FitsWhole}
 use Rattle.int_vectors.specs.Contents.{content, IsContent}
+use Rattle.reduced_rows.proofs.SpanSteps.{positive_other}
 use Rattle.homotopy_rows.specs.Powers.{all_of}
-use Rattle.homotopy_rows.proofs.Dividing.{above, same_divisor, divisor_more, divisor_one, divisor_whole}
+use Rattle.homotopy_rows.proofs.Dividing.{same_divisor, divisor_more, divisor_one, divisor_whole}
 use Rattle.homotopy_rows.proofs.scaling.common_divisor.Goals as goal
 
 pub returns-then-g-eq1-clause-greatest : goal.returns-then-g-eq1-clause-greatest
@@ -30,7 +31,7 @@ loop-ws-preserved c =
     record {
       is = same_divisor c.args.den _ c.gcd-g.result _ _ ed er
           (divisor_more c.args.den c.args.sums.now c.loop-ws.ws-index _ (content c.ws-item.result) (unsigned_abs c.gcd-g.result) c.ws-item.result c.loop-ws-test.true c.ws-item.is inv.is c.content.ensures.greatest k);
-      positive = subst (λ z. pos 0 <ℤ z) er (gcd_above c.content.result (to_z w128 c.loop-ws.g-bits) c.gcd-g.result (above (to_z w128 c.loop-ws.g-bits) inv.positive) d s);
+      positive = subst (λ z. pos 0 <ℤ z) er (gcd_above c.content.result (to_z w128 c.loop-ws.g-bits) c.gcd-g.result (positive_other (to_z w128 c.loop-ws.g-bits) inv.positive) d s);
       fits = subst FitsWhole er (nonneg_fits c.gcd-g.result fr s);
     }
 

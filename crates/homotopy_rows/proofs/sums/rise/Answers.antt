@@ -5,8 +5,8 @@ use Rattle.int_vectors.specs.Bounds.{IsNarrow}
 use Rattle.int_vectors.specs.Vectors.{Each, sub}
 use Rattle.cayley.proofs.Lists.Reaching.{plain_narrow}
 use Rattle.cayley.specs.Resting.{rise}
+use Rattle.inner_normal.proofs.CoefficientSteps.{fits_total}
 use Rattle.cell_certificate.specs.Sides.{seen}
-use Rattle.homotopy_rows.proofs.Summing.{fits_total}
 use Rattle.homotopy_rows.proofs.sums.rise.Goals as goal
 
 pub dot_between_unchecked-requires-clause-a_small : goal.dot_between_unchecked-requires-clause-a_small

@@ -3,8 +3,9 @@ use Rattle.std.specs.Int.{w128}
 use Rattle.std.proofs.lemmas.Int.{to_z-of_z}
 use Rattle.std.proofs.lemmas.List.{length-map}
 use Rattle.int_vectors.specs.Fits.{AllFit}
+use Rattle.int_vectors.proofs.Differences.{all-append}
 use Rattle.cell_certificate.specs.Sides.{seen}
-use Rattle.homotopy_rows.proofs.Collected.{fit-append, sums_more, free_more}
+use Rattle.homotopy_rows.proofs.Collected.{sums_more, free_more}
 use Rattle.homotopy_rows.proofs.sums.support_sums.Goals as goal
 
 pub loop-place-preserved : goal.loop-place-preserved
@@ -22,6 +23,6 @@ loop-place-preserved c =
     let l : c.loop-place.place < length (map seen c.args.points.now) = omega (arith, c.loop-place-test.true, length-map c.args.points.now seen) in
     record {
       made = more ∙ sums_more den v s c.args.pair.0 c.args.pair.1 c.loop-place.sums.items k sum l inv.made h.0;
-      fits = subst AllFit (sym more) (fit-append c.loop-place.sums.items sum inv.fits h.1);
+      fits = subst AllFit (sym more) (all-append c.loop-place.sums.items sum inv.fits h.1);
       free = free_more den v s c.args.pair.0 c.args.pair.1 k inv.free h.2;
     }

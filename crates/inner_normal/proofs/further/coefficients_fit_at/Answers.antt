@@ -3,7 +3,7 @@ use Rattle.std.specs.Prelude.{IsTrue}
 use Rattle.int_vectors.specs.Vectors.{Each, sub}
 use Rattle.cayley.specs.Valid.{IsCornerCoordinate}
 use Rattle.cayley.specs.Problems.{point_at}
-use Rattle.cayley.specs.Dependencies.{support_at}
+use Rattle.cayley.specs.Dependencies.{nth_support}
 use Rattle.inner_normal.specs.Coefficients.{difference, FitsCoefficients}
 use Rattle.inner_normal.proofs.Meaning.{inverse_shape}
 use Rattle.inner_normal.proofs.further.coefficients_fit_at.Goals as goal
@@ -32,7 +32,7 @@ coefficients_fit-requires-clause-a_near c = subst (λ (xs : List ℤ). Each xs I
 pub returns : goal.returns
 returns c =
     let j = c.args.support - 1 in
-    let s = support_at c.args.problem.now.supports (c.args.support - 1) in
+    let s = nth_support c.args.problem.now.supports (c.args.support - 1) in
     let v : sub c.as_slice.result.now c.as_slice-2.result.now ≡ difference c.args.problem.now c.args.cell.now (c.args.support - 1) c.args.position =
     ap₂ sub (c.as_slice.ensures.value ∙ c.point_of-c.ensures.same) (c.as_slice-2.ensures.value ∙ c.point_of-a.ensures.same ∙ ap (λ a. (point_at s a).coordinates) c.first_of.ensures.same) in
     subst (λ (v : List ℤ). IsTrue c.coefficients_fit.result ↔ FitsCoefficients j c.args.inverse.now v) v c.coefficients_fit.ensures

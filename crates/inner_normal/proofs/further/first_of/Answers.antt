@@ -1,6 +1,6 @@
 use Rattle.std.proofs.Common.{◌≡◌, ◌-◌, ◌<◌, ◌≤◌, sym, ap, subst, ◌∙◌, length, arith, List, ℕ}
 use Rattle.std.specs.Prelude.{slice_index_or}
-use Rattle.cayley.specs.Dependencies.{support_at, pair_at}
+use Rattle.cayley.specs.Dependencies.{pair_at, nth_support}
 use Rattle.cayley.proofs.OneCell.CellRows.{InRange}
 use Rattle.inner_normal.proofs.Reading.{cell_long, pair_read, pair_range}
 use Rattle.inner_normal.proofs.further.first_of.Goals as goal
@@ -31,4 +31,4 @@ pub returns-clause-place : goal.returns-clause-place
 returns-clause-place c =
     let p = pair_is c in
     let r = pair_range c.args.problem.now.supports c.args.cell.now (c.args.support - 1) p.0 c.requires.cell in
-    subst (λ (x : ℕ × ℕ). (1 ≤ x.0) × (x.0 ≤ length (support_at c.args.problem.now.supports (c.args.support - 1)))) (sym p.1) (r.0, (let lt = r.1 in let le = r.2 in omega (arith, lt, le)))
+    subst (λ (x : ℕ × ℕ). (1 ≤ x.0) × (x.0 ≤ length (nth_support c.args.problem.now.supports (c.args.support - 1)))) (sym p.1) (r.0, (let lt = r.1 in let le = r.2 in omega (arith, lt, le)))

@@ -1,18 +1,18 @@
-use Rattle.std.proofs.Common.{◌∙◌, ◌++◌, ◌∷◌, [], ap, sym, subst}
+use Rattle.std.proofs.Common.{◌∙◌, ◌++◌, ◌∷◌, [], ap}
 use Rattle.cayley.specs.Mixed.{IsMixedCell}
-use Rattle.cayley.proofs.Lists.Each.{all_each}
-use Rattle.searcher.proofs.Turns.{in_each}
-use Rattle.lift_move.proofs.Found.{next_cells, next_normals, read_there, unfit_among}
+use Rattle.cayley.proofs.Order.Lined.{each_has}
+use Rattle.searcher.proofs.PassLists.{there}
+use Rattle.lift_move.proofs.Found.{next_cells, next_normals, unfit_among}
 use Rattle.lift_move.proofs.moving.found_cells.Goals as goal
 
 pub found_cell-requires-clause-mixed : goal.found_cell-requires-clause-mixed
 found_cell-requires-clause-mixed c =
-    in_each (IsMixedCell c.args.second.now) c.args.cells.now c.cell-item.result c.requires.mixed (read_there c.args.cells.now c.loop-cell.cell-index c.cell-item.result c.cell-item.is c.loop-cell-test.true)
+    each_has (IsMixedCell c.args.second.now) c.args.cells.now c.cell-item.result c.requires.mixed (there c.args.cells.now c.loop-cell.cell-index c.cell-item.result c.cell-item.is c.loop-cell-test.true)
 
 pub returns-in-Err-clause-halt : goal.returns-in-Err-clause-halt
 returns-in-Err-clause-halt c =
     unfit_among c.args.second.now c.args.cells.now c.cell-item.result c.in-Err.cause
-    (read_there c.args.cells.now c.loop-cell.cell-index c.cell-item.result c.cell-item.is c.loop-cell-test.true) c.in-Err.ensures
+    (there c.args.cells.now c.loop-cell.cell-index c.cell-item.result c.cell-item.is c.loop-cell-test.true) c.in-Err.ensures
 
 pub loop-cell-preserved : goal.loop-cell-preserved
 loop-cell-preserved c =

@@ -1,7 +1,7 @@
 use Rattle.std.proofs.Common.{◌≡◌, take}
 use Rattle.int_vectors.specs.Vectors.{Each}
+use Rattle.cayley.specs.Stored.{cells_of}
 use Rattle.searcher.specs.Expansions.{HasLowestNormal}
-use Rattle.searcher.specs.Searches.{cells_of}
 use Rattle.lift_move.proofs.moving.found_cells.Given as goal
 
 abbrev pub invariant-loop-cell : goal.invariant-loop-cell

@@ -1,8 +1,8 @@
 use Rattle.std.proofs.Common.{◌≡◌}
+use Rattle.start_system.proofs.Making.Parts.{if_ok_weaker}
 use Rattle.mixedcells.specs.declared.outcome.Outcome.TheVariants as variant
 use Rattle.mixedcells.specs.Outcomes.{IsTieLine, overflow_cell}
 use Rattle.mixedcells.specs.Walks.{IsTieReply}
-use Rattle.mixedcells.proofs.Readings.{if_ok_weaker}
 use Rattle.mixedcells.proofs.AlongPaths.{free_reply, tied_reply, unfit_reply}
 use Rattle.mixedcells.proofs.along.generic.Goals as goal
 

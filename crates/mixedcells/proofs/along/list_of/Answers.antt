@@ -1,6 +1,6 @@
+use Rattle.start_system.proofs.Making.Parts.{if_ok_weaker}
 use Rattle.mixedcells.specs.Walks.{IsReachedListing, IsWalkReply}
 use Rattle.mixedcells.specs.Journeys.{TellsCause}
-use Rattle.mixedcells.proofs.Readings.{if_ok_weaker}
 use Rattle.mixedcells.proofs.AlongPaths.{tells_walk}
 use Rattle.mixedcells.proofs.along.list_of.Goals as goal
 

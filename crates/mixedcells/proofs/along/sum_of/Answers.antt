@@ -1,6 +1,6 @@
+use Rattle.start_system.proofs.Making.Parts.{if_ok_weaker}
 use Rattle.mixedcells.specs.Walks.{IsReachedSum, IsWalkReply}
 use Rattle.mixedcells.specs.Journeys.{TellsCause}
-use Rattle.mixedcells.proofs.Readings.{if_ok_weaker}
 use Rattle.mixedcells.proofs.AlongPaths.{tells_walk, sum_written}
 use Rattle.mixedcells.proofs.along.sum_of.Goals as goal
 

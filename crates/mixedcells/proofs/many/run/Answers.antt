@@ -1,7 +1,7 @@
-use Rattle.std.proofs.Common.{◌≡◌, map, string_bytes, rules, refl, subst, IsTrue}
-use Rattle.mixedcells.specs.declared.words.Command.TheVariants.{Plain, List, Sum, Check, Generic, Powers, Poly, Make}
+use Rattle.std.proofs.Common.{map, string_bytes, rules, refl, subst, IsTrue}
+use Rattle.mixedcells.specs.declared.words.Command.TheVariants.{Plain, List, Sum, Check, Generic, Move, Powers, Poly, Make}
 use Rattle.mixedcells.specs.Words.{IsForTeam, IsReading}
-use Rattle.mixedcells.specs.ByMany.{by_one, for_one}
+use Rattle.mixedcells.specs.ByMany.{for_one}
 use Rattle.mixedcells.proofs.Exact.{tie_other, cell_other, team_other, comes, ok_other, known}
 use Rattle.mixedcells.proofs.AlongPaths as along
 use Rattle.mixedcells.proofs.Judged.{list_spared}
@@ -98,6 +98,31 @@ pub returns-then-asks_for_team-clause-tie_free : goal.returns-then-asks_for_team
 returns-then-asks_for_team-clause-tie_free g c = λ bytes file left means f ok.
     let team : IsForTeam (map string_bytes c.args.words.now) = c.asks_for_team.ensures.0 (search rules) in
     team_command (map string_bytes c.args.words.now) Generic team means refl
+
+pub returns-then-asks_for_team-clause-moved : goal.returns-then-asks_for_team-clause-moved
+returns-then-asks_for_team-clause-moved g c = λ bytes left means ok.
+    let team : IsForTeam (map string_bytes c.args.words.now) = c.asks_for_team.ensures.0 (search rules) in
+    team_command (map string_bytes c.args.words.now) Move team means refl
+
+pub returns-then-asks_for_team-clause-moved_whole : goal.returns-then-asks_for_team-clause-moved_whole
+returns-then-asks_for_team-clause-moved_whole g c = λ bytes listing second left means text full generic ok.
+    let team : IsForTeam (map string_bytes c.args.words.now) = c.asks_for_team.ensures.0 (search rules) in
+    team_command (map string_bytes c.args.words.now) Move team means refl
+
+pub returns-then-asks_for_team-clause-move_tie : goal.returns-then-asks_for_team-clause-move_tie
+returns-then-asks_for_team-clause-move_tie g c = λ bytes proof left means is.
+    let team : IsForTeam (map string_bytes c.args.words.now) = c.asks_for_team.ensures.0 (search rules) in
+    team_command (map string_bytes c.args.words.now) Move team means refl
+
+pub returns-then-asks_for_team-clause-move_unfit : goal.returns-then-asks_for_team-clause-move_unfit
+returns-then-asks_for_team-clause-move_unfit g c = λ bytes cell left means is.
+    let team : IsForTeam (map string_bytes c.args.words.now) = c.asks_for_team.ensures.0 (search rules) in
+    team_command (map string_bytes c.args.words.now) Move team means refl
+
+pub returns-then-asks_for_team-clause-moves : goal.returns-then-asks_for_team-clause-moves
+returns-then-asks_for_team-clause-moves g c = λ bytes listing second left short means text right generic fits.
+    let team : IsForTeam (map string_bytes c.args.words.now) = c.asks_for_team.ensures.0 (search rules) in
+    team_command (map string_bytes c.args.words.now) Move team means refl
 
 pub returns-then-asks_for_team-clause-powers : goal.returns-then-asks_for_team-clause-powers
 returns-then-asks_for_team-clause-powers g c = λ bytes left means ok.

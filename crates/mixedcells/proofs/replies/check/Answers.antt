@@ -1,7 +1,7 @@
 use Rattle.std.proofs.Common.{inl}
 use Rattle.listing_text.proofs.Formed.{listing_of_file}
+use Rattle.start_system.proofs.Making.Parts.{if_ok_weaker}
 use Rattle.mixedcells.specs.Answers.{IsVerdictReply, IsCheckReply}
-use Rattle.mixedcells.proofs.Readings.{if_ok_weaker}
 use Rattle.mixedcells.proofs.replies.check.Goals as goal
 
 pub verdict-requires : goal.verdict-requires

@@ -1,7 +1,7 @@
 use Rattle.std.proofs.Common.{inl}
 use Rattle.listing_text.proofs.Formed.{listing_of_file}
+use Rattle.start_system.proofs.Making.Parts.{if_ok_weaker}
 use Rattle.mixedcells.specs.Answers.{IsRowsReply, IsPowersReply}
-use Rattle.mixedcells.proofs.Readings.{if_ok_weaker}
 use Rattle.mixedcells.proofs.replies.powers.Goals as goal
 
 pub judged_rows-requires : goal.judged_rows-requires

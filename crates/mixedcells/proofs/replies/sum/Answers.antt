@@ -1,7 +1,7 @@
 use Rattle.std.proofs.Common.{inl}
+use Rattle.start_system.proofs.Making.Parts.{if_ok_weaker}
 use Rattle.mixedcells.specs.Walks.{IsReachedSum, IsWalkReply}
 use Rattle.mixedcells.specs.Answers.{IsFileReply}
-use Rattle.mixedcells.proofs.Readings.{if_ok_weaker}
 use Rattle.mixedcells.proofs.replies.sum.Goals as goal
 
 pub returns-in-Ok : goal.returns-in-Ok

@@ -1,8 +1,8 @@
 use Rattle.std.proofs.Common.{◌≡◌, inl}
+use Rattle.start_system.proofs.Making.Parts.{if_ok_weaker}
 use Rattle.mixedcells.specs.declared.outcome.Outcome.TheVariants as variant
 use Rattle.mixedcells.specs.Families.{lifted_text}
 use Rattle.mixedcells.specs.Answers.{IsSystemReply}
-use Rattle.mixedcells.proofs.Readings.{if_ok_weaker}
 use Rattle.mixedcells.proofs.systems.poly.Goals as goal
 
 pub lifted-requires : goal.lifted-requires

@@ -1,7 +1,7 @@
 use Rattle.std.proofs.Common.{◌≡◌, inr, Some, [], map, string_bytes, ap, arith, refl, rules, false, IsTrue}
 use Rattle.mixedcells.specs.Words.{needs_team}
 use Rattle.mixedcells.specs.Outcomes.{status_of}
-use Rattle.mixedcells.specs.declared.words.Command.TheVariants.{Plain, Check, Generic, Poly, Make}
+use Rattle.mixedcells.specs.declared.words.Command.TheVariants.{Plain, Check, Generic, Move, Poly, Make}
 use Rattle.mixedcells.proofs.CommandLine.Words.{no_reader, reader, same_team}
 use Rattle.mixedcells.proofs.CommandLine.Ranges.{fits}
 use Rattle.mixedcells.proofs.Ended.{appends_as, usage_cut, usage_written}
@@ -11,6 +11,7 @@ use Rattle.mixedcells.proofs.Teams.{no_team, asked_for, usage_alone, meant_team,
 use Rattle.mixedcells.proofs.Judged.{checked, judged, spares, plain_spared, list_spared}
 use Rattle.mixedcells.proofs.QuietFiles.{never_unfit, usage_fits, meant_tree_fits, passes}
 use Rattle.mixedcells.proofs.LiftedSystems.{told}
+use Rattle.mixedcells.proofs.Moved as move
 use Rattle.mixedcells.proofs.top.run_alone.Goals as goal
 
 pub returns-in-Ok-clause-written : goal.returns-in-Ok-clause-written
@@ -126,6 +127,32 @@ returns-in-Ok-clause-passes g c = λ bytes file left means written quiet.
     passes bytes file written quiet (map string_bytes c.args.words.now) means _
     (λ other. let w = returns-in-Ok-clause-written g c other in (w.0, known (map string_bytes c.args.words.now) _ bytes _ _ left w.1))
 
+pub returns-in-Ok-clause-moved : goal.returns-in-Ok-clause-moved
+returns-in-Ok-clause-moved g c = λ bytes left means ok.
+    let w = returns-in-Ok-clause-written g c (ok_other _ ok) in
+    let l = move.moved (map string_bytes c.args.words.now) bytes means _ _ w.0 left ok w.1 in
+    (l.0, l.1, l.2, l.3, (w.0, l.4, w.2))
+
+pub returns-in-Ok-clause-moved_whole : goal.returns-in-Ok-clause-moved_whole
+returns-in-Ok-clause-moved_whole g c = λ bytes listing second left means text full generic ok.
+    let w = returns-in-Ok-clause-written g c (ok_other _ ok) in
+    (w.0, move.moved_whole (map string_bytes c.args.words.now) bytes means listing second _ _ w.0 left text full generic ok w.1, w.2)
+
+pub returns-in-Ok-clause-move_tie : goal.returns-in-Ok-clause-move_tie
+returns-in-Ok-clause-move_tie g c = λ bytes proof left means is.
+    let w = returns-in-Ok-clause-written g c (tie_other _ proof is) in
+    move.move_tie (map string_bytes c.args.words.now) bytes means proof _ _ w.0 left is w.1
+
+pub returns-in-Ok-clause-move_unfit : goal.returns-in-Ok-clause-move_unfit
+returns-in-Ok-clause-move_unfit g c = λ bytes cell left means is.
+    let w = returns-in-Ok-clause-written g c (cell_other _ cell is) in
+    move.move_unfit (map string_bytes c.args.words.now) bytes means cell _ _ w.0 left is w.1
+
+pub returns-in-Ok-clause-moves : goal.returns-in-Ok-clause-moves
+returns-in-Ok-clause-moves g c = λ bytes listing second left short means text right generic fits.
+    move.moves (map string_bytes c.args.words.now) bytes means listing second _ short text right generic fits
+    (λ other. let w = returns-in-Ok-clause-written g c other in (w.0, known (map string_bytes c.args.words.now) _ bytes _ _ left w.1))
+
 pub returns-in-Ok-clause-systems : goal.returns-in-Ok-clause-systems
 returns-in-Ok-clause-systems g c = λ bytes seed left short means.
     told seed bytes _ _ _ (map string_bytes c.args.words.now) short means
@@ -229,6 +256,11 @@ returns-then-needs_team-clause-passes g c = λ bytes file left means written qui
     let team : IsTrue (needs_team c.in-Some.command) = search rules in
     no_other (map string_bytes c.args.words.now) c.in-Some.command Check c.in-Some.ensures.meaning team refl means
 
+pub returns-then-needs_team-clause-moves : goal.returns-then-needs_team-clause-moves
+returns-then-needs_team-clause-moves g c = λ bytes listing second left short means text right generic fits.
+    let team : IsTrue (needs_team c.in-Some.command) = search rules in
+    no_other (map string_bytes c.args.words.now) c.in-Some.command Move c.in-Some.ensures.meaning team refl means
+
 pub returns-then-needs_team-clause-systems : goal.returns-then-needs_team-clause-systems
 returns-then-needs_team-clause-systems g c = λ bytes seed left short means.
     let team : IsTrue (needs_team c.in-Some.command) = search rules in
@@ -267,6 +299,15 @@ returns-in-None-clause-walked_quiet g c = λ bytes file left short walks f safe 
 
 pub returns-in-None-clause-passes : goal.returns-in-None-clause-passes
 returns-in-None-clause-passes g c = λ bytes file left means written quiet. absurd (c.in-None.ensures.meaning (Check, means))
+
+pub returns-in-None-clause-move_tie : goal.returns-in-None-clause-move_tie
+returns-in-None-clause-move_tie g c = λ bytes proof left means is. absurd (c.in-None.ensures.meaning (Move, means))
+
+pub returns-in-None-clause-move_unfit : goal.returns-in-None-clause-move_unfit
+returns-in-None-clause-move_unfit g c = λ bytes cell left means is. absurd (c.in-None.ensures.meaning (Move, means))
+
+pub returns-in-None-clause-moves : goal.returns-in-None-clause-moves
+returns-in-None-clause-moves g c = λ bytes listing second left short means text right generic fits. absurd (c.in-None.ensures.meaning (Move, means))
 
 pub returns-in-None-clause-systems : goal.returns-in-None-clause-systems
 returns-in-None-clause-systems g c = λ bytes seed left short means. absurd (c.in-None.ensures.meaning (Poly seed, means))

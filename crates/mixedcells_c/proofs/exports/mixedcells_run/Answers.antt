@@ -17,6 +17,9 @@ returns c = let end = c.run_into.ensures in record {
   tie_cause = ends.tie_cause end;
   overflow_cause = ends.overflow_cause end;
   walked = λ file short walking is safe fits. ends.comes end 0 (λ o t run. ap status_of (run.walked file short walking is safe fits));
+  quiet = λ file is small e. ends.line_alone end e (λ o t run cell. run.quiet file is small cell);
+  walked_quiet = λ file short walking is safe small. ends.comes end 0 (λ o t run. ap status_of (run.walked_quiet file short walking is safe small));
+  passes = λ file means is small. ends.passed end (λ o t run. run.passes file means is small);
   needs_team = ends.needs_team end;
   for_team = ends.for_team end;
   judged_ties = λ file short means is few fit. ends.tie_or_none end (λ o t run. run.judged_ties file short means is few fit);
@@ -29,6 +32,7 @@ returns c = let end = c.run_into.ensures in record {
   written_reached = λ means e. let h = ends.ended end e in let l = h.1.written_reached means refl in (l.0, l.1, (h.0, l.2, h.2));
   spares = λ file means is. ends.spared end (λ o t run. run.spares file means is);
   powers = λ means e. let h = ends.ended end e in let l = h.1.powers means refl in (l.0, l.1, l.2, (h.0, l.3, h.2));
+  systems = λ seed short means. ends.system_told end seed (λ o t run. run.systems seed short means);
   made = λ family seed means. ends.comes end 0 (λ o t run. ap status_of (run.made family seed means));
   made_text = λ family seed means e. let h = ends.ended end e in (h.0, h.1.made_text family seed means refl, h.2);
   usage = λ none. ends.comes end 2 (λ o t run. ap status_of (run.usage none));

@@ -1,8 +1,10 @@
 use Rattle.std.proofs.Common.{◌≡◌, ◌∙◌, Some, map, string_bytes, ap, inl, inr, refl, subst, ⊎_elim, List, ℕ}
+use Rattle.std.proofs.lemmas.Result.{MatchResult-weaker}
 use Rattle.support_text.specs.Writing.{problem_text}
 use Rattle.listing_text.specs.Listings.{IsListingOf}
 use Rattle.homotopy_rows.specs.Answers.{IsPowersText}
-use Rattle.mixedcells.specs.Families.{family_file}
+use Rattle.poly_text.specs.SystemText.{system_of}
+use Rattle.mixedcells.specs.Families.{family_file, lifted_text}
 use Rattle.mixedcells.specs.Walks.{IsReachedListing, IsReachedSum, IsSumOf}
 use Rattle.mixedcells.specs.Runs.{IsCalledFor, IsFree, IsWrittenListing}
 use Rattle.mixedcells_c.specs.Buffers.{Grown}
@@ -37,11 +39,16 @@ returns-in_default c =
       tie_cause = λ proof walking is. r.tie_cause input proof known walking is;
       overflow_cause = λ cell walking is. r.overflow_cause input cell known walking is;
       walked = λ file short walking is safe fits. bound_to bound (r.walked input file known short walking is safe fits);
+      quiet = λ file means small cell. r.quiet input file known means small cell;
+      walked_quiet = λ file short walking is safe small. bound_to bound (r.walked_quiet input file known short walking is safe small);
+      passes = λ file means is small. bound_to bound (r.passes input file known means is small);
       judged_ties = λ file short means is few fit. ⊎_elim inl (λ h. inr (bound_to bound h)) (r.judged_ties input file known short means is few fit);
       tie_free = λ file means is ok. r.tie_free input file known means is ok;
       needs_team = r.needs_team;
       silent = λ is. c.into_bytes.ensures ∙ ap (λ (s : Grown). s.held) ((r.untouched is).1 ∙ c.new-sink.ensures);
       powers = λ means ok. let l = r.powers input known means ok in (l.0, l.1, l.2, text (IsPowersText l.0) l.3);
+      systems = λ seed short means. MatchResult-weaker (system_of input) (bound_to bound (r.systems input seed known short means))
+          (λ system h. (h.0, let said = lifted_text seed system in text (λ (t : List ℕ). t ≡ said) (said, refl, h.1))) (λ fault h. h);
       made = λ family seed means. bound_to bound (r.made family seed means);
       made_text = λ family seed means ok.
           let said = problem_text (family_file family seed) in text (λ (t : List ℕ). t ≡ said) (said, refl, r.made_text family seed means ok);

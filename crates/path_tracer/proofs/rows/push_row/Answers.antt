@@ -2,7 +2,7 @@ use Rattle.std.proofs.Common.{ap, subst, sym, ◌∙◌, ◌<◌, [], length, ru
 use Rattle.std.specs.Int.{w128}
 use Rattle.std.proofs.lemmas.List.{get_or_default}
 use Rattle.int_vectors.specs.Vectors.{at}
-use Rattle.carried_inverse.proofs.ColumnSteps.{each_at}
+use Rattle.reduced_rows.proofs.Picking.{each_at}
 use Rattle.path_tracer.proofs.RowSteps.{entry_more, fits_more}
 use Rattle.path_tracer.proofs.rows.push_row.Goals as goal
 

@@ -1,6 +1,6 @@
 use Rattle.std.proofs.Common.{◌≡◌, ◌++◌, take}
 use Rattle.int_vectors.specs.Fits.{AllFit}
-use Rattle.path_tracer.specs.Rows.{entries_at}
+use Rattle.int_vectors.specs.Vectors.{entries_at}
 use Rattle.path_tracer.proofs.rows.push_row.Given as goal
 
 abbrev pub invariant-loop-column : goal.invariant-loop-column

@@ -1,6 +1,7 @@
 use Rattle.std.proofs.Common.{◌≤◌, ◌+◌, ◌*◌, map, take, sym, subst, arith}
+use Rattle.wide_int.proofs.Turns.{next_all}
 use Rattle.plain_lister.specs.Choices.{most_points, pairs_of, product}
-use Rattle.plain_lister.proofs.Numbering.{choices_more, each_count, up_more}
+use Rattle.plain_lister.proofs.Numbering.{choices_more, each_count}
 use Rattle.plain_lister.proofs.counting.excess.Goals as goal
 
 pub pairs_of-choices-requires : goal.pairs_of-choices-requires
@@ -21,5 +22,5 @@ loop-count-preserved c =
     let l : c.loop-count.choices * c.pairs_of-choices.result ≤ 1000000 = omega (arith, h) in
     record {
       choices = e;
-      below = up_more (λ j. product (take j (map pairs_of c.args.counts.now)) ≤ 1000000) k c.loop-count.invariant.below (subst (λ n. n ≤ 1000000) e l);
+      below = next_all (λ j. product (take j (map pairs_of c.args.counts.now)) ≤ 1000000) k c.loop-count.invariant.below (subst (λ n. n ≤ 1000000) e l);
     }

@@ -3,7 +3,8 @@ use Rattle.std.specs.Int.{w128}
 use Rattle.wide_int.specs.Whole.{FitsWhole}
 use Rattle.int_vectors.specs.Fits.{AllFit}
 use Rattle.int_vectors.proofs.Differences.{all-append}
-use Rattle.reduced_rows.specs.Denominators.{shares, lcm_from, zeros}
+use Rattle.int_vectors.specs.Vectors.{zeros}
+use Rattle.reduced_rows.specs.Denominators.{shares, lcm_from}
 use Rattle.reduced_rows.proofs.KernelEntries.{zeros_more, no_lcm, no_shares, kernel_end}
 use Rattle.reduced_rows.proofs.kernels.kernel.Goals as goal
 

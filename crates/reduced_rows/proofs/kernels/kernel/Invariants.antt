@@ -1,6 +1,7 @@
 use Rattle.std.proofs.Common.{◌≡◌, pos, ◌++◌, ◌∷◌}
 use Rattle.int_vectors.specs.Fits.{AllFit}
-use Rattle.reduced_rows.specs.Denominators.{shares, lcm_from, zeros}
+use Rattle.int_vectors.specs.Vectors.{zeros}
+use Rattle.reduced_rows.specs.Denominators.{shares, lcm_from}
 use Rattle.reduced_rows.proofs.kernels.kernel.Given as goal
 
 abbrev pub invariant-loop-turn : goal.invariant-loop-turn

@@ -1,5 +1,5 @@
-use Rattle.std.proofs.Common.{rules, arith, ◌≡◌, ◌+◌, [], ◌++◌, ◌∷◌, map, min, reverse, sym, ap, subst, ◌∙◌}
-use Rattle.std.specs.List.{All}
+use Rattle.std.proofs.Common.{rules, ◌≡◌, ◌+◌, [], ◌++◌, ◌∷◌, map, min, reverse, ap, ◌∙◌}
+use Rattle.cayley.proofs.OneCell.MovedProblems.{map_push}
 use Rattle.branch_pool.specs.Seats.{SeatData, IsSeatOf}
 use Rattle.branch_pool.proofs.Dealt.{all_more}
 use Rattle.branch_pool.proofs.Fresh.{all_pop}
@@ -7,7 +7,7 @@ use Rattle.searcher.specs.declared.branches.Branch.{Branch}
 use Rattle.searcher.specs.Searches.{top}
 use Rattle.search_team.specs.declared.jobs.Job.{Job}
 use Rattle.search_team.specs.Searchers.{IsJob}
-use Rattle.search_team.proofs.Begun.{map_snoc, moved_on}
+use Rattle.search_team.proofs.Begun.{moved_on}
 use Rattle.search_team.proofs.Summed.{one_more}
 use Rattle.search_team.proofs.ending.parted.Goals as goal
 
@@ -30,9 +30,9 @@ loop-job-preserved c =
           c.loop-job.invariant.whole mine.number mine.whole seats parts sum c.chosen-report.ensures.one c.chosen-report.ensures.none;
       own = all_more (IsSeatOf pool) c.loop-job.seats.items c.push_reserved-in-Some.new.self.items job.seat seats c.loop-job.invariant.own mine.seat;
       numbers =
-          ap (λ l. map (λ (j : Job). j.number) rest ++ reverse l) (ap (map (λ (s : SeatData Branch). s.number)) seats ∙ map_snoc (λ (s : SeatData Branch). s.number) c.loop-job.seats.items job.seat ∙ ap (λ n. map (λ (s : SeatData Branch). s.number) c.loop-job.seats.items ++ n ∷ []) mine.number)
+          ap (λ l. map (λ (j : Job). j.number) rest ++ reverse l) (ap (map (λ (s : SeatData Branch). s.number)) seats ∙ map_push (λ (s : SeatData Branch). s.number) c.loop-job.seats.items job.seat ∙ ap (λ n. map (λ (s : SeatData Branch). s.number) c.loop-job.seats.items ++ n ∷ []) mine.number)
           ∙ moved_on (map (λ (j : Job). j.number) rest) (map (λ (j : Job). j.number) c.loop-job.jobs.items) (map (λ (s : SeatData Branch). s.number) c.loop-job.seats.items) job.number
-          (ap (map (λ (j : Job). j.number)) c.in-Some.ensures.items ∙ map_snoc (λ (j : Job). j.number) rest job)
+          (ap (map (λ (j : Job). j.number)) c.in-Some.ensures.items ∙ map_push (λ (j : Job). j.number) rest job)
           ∙ c.loop-job.invariant.numbers;
       parts_room = search rules;
       seats_room = search rules;

@@ -1,11 +1,13 @@
-use Rattle.std.proofs.Common.{arith, ◌≡◌, ◌≢◌, suc, [], ◌++◌, length, map, get_or, sym, ap, subst, ◌∙◌}
+use Rattle.std.proofs.Common.{arith, ◌≡◌, suc, ◌++◌, length, map, get_or, sym, ap, subst, ◌∙◌}
 use Rattle.std.specs.List.{range_with_len}
 use Rattle.std.specs.Prelude.{IsPermutation}
 use Rattle.std.proofs.lemmas.List.{length-map}
 use Rattle.std.proofs.lemmas.List.FromFn.{length-range_with_len}
-use Rattle.branch_pool.specs.Seats.{IsSeatOf}
+use Rattle.int_vectors.specs.Vectors.{Each}
 use Rattle.search_team.specs.declared.jobs.Job.{Job}
 use Rattle.search_team.specs.Searchers.{IsFresh, IsJob}
+use Rattle.search_team.specs.Walkers.{IsReady}
+use Rattle.search_team.proofs.Ready.{ready_given}
 use Rattle.search_team.proofs.Begun.{number_at, begun_all, job_begun, job_idle}
 use Rattle.search_team.proofs.opening.begun.Goals as goal
 
@@ -32,3 +34,14 @@ returns-clause-jobs c =
     let j = get_or jobs (suc k) d in
     let n : j.number ≡ suc (suc k) = number_at (λ (j : Job). j.number) jobs (suc k) seats d numbers lt in
     job_idle p pool given j (c.requires.fresh (suc k) d lt) (λ e. absurd (omega (arith, e, n))) (omega (arith, n)) (omega (arith, n, lt, long)))
+
+pub returns-clause-ready : goal.returns-clause-ready
+returns-clause-ready c = λ starts.
+    let p = c.args.problem.now in
+    let pool = c.args.pool.now in
+    let jobs = c.args.jobs.now.items in
+    let old = c.index_mut.result.now in
+    let now = c.offered.new.job in
+    begun_all (λ (j : Job). Each j.seat.offered (IsReady p)) jobs now c.requires.numbers.0
+    (ready_given p c.args.branches.items now.seat.offered now.hand.items starts c.offered.ensures.outs)
+    (λ k d lt. subst (λ l. Each l (IsReady p)) (sym ((c.requires.fresh (suc k) d lt).offered)) tt)

@@ -1,11 +1,12 @@
 use Rattle.std.proofs.Common.{arith, ◌≡◌, [], length, map, sym, ap, ◌∙◌}
 use Rattle.std.specs.List.{range_with_len}
+use Rattle.std.proofs.lemmas.List.{map-id}
 use Rattle.std.proofs.lemmas.List.FromFn.{length-map-range_with_len}
 use Rattle.cayley.proofs.Lists.Each.{map_map}
 use Rattle.branch_pool.specs.Seats.{SeatData, IsSeatOf, all_taken, fresh_seat}
 use Rattle.searcher.specs.declared.branches.Branch.{Branch}
 use Rattle.search_team.specs.declared.jobs.Job.{Job}
-use Rattle.search_team.proofs.Begun.{all_unmapped, number_at, map_id}
+use Rattle.search_team.proofs.Begun.{all_unmapped, number_at}
 use Rattle.search_team.proofs.opening.prepared.Goals as goal
 
 pub dressed-requires : goal.dressed-requires
@@ -29,7 +30,7 @@ returns-clause-fresh c = λ k d l.
     sym (map_map (λ (s : SeatData Branch). s.number) (λ (j : Job). j.seat) jobs)
     ∙ ap (map (λ (s : SeatData Branch). s.number)) (c.dressed.ensures.seats ∙ c.in_ok-pool.ensures.fresh)
     ∙ map_map (λ (s : SeatData Branch). s.number) (λ k. fresh_seat {B = Branch} c.in_ok-pool.pool.deques k) (range_with_len 1 c.args.searchers)
-    ∙ map_id (range_with_len 1 c.args.searchers) in
+    ∙ map-id (range_with_len 1 c.args.searchers) in
     record {
       seat = a;
       number = number_at (λ (j : Job). j.seat.number) jobs k c.args.searchers d numbers l ∙ sym (number_at (λ (j : Job). j.number) jobs k (length seats) d c.dressed.ensures.numbers l);

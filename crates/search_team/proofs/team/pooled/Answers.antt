@@ -1,8 +1,9 @@
-use Rattle.std.proofs.Common.{arith, ◌≡◌, ℕ, None, ◌++◌, length, map, take, drop, refl, sym, ap, ◌∙◌}
-use Rattle.std.specs.List.{range_with_len}
+use Rattle.std.proofs.Common.{arith, ◌≡◌, ℕ, ◌++◌, length, map, take, drop, sym, ap, subst, ◌∙◌}
+use Rattle.std.specs.List.{All, range_with_len}
 use Rattle.std.proofs.lemmas.List.{length-map}
 use Rattle.std.proofs.lemmas.List.FromFn.{length-range_with_len}
 use Rattle.search_team.specs.declared.jobs.Job.{Job}
+use Rattle.search_team.specs.Walkers.{IsWorker}
 use Rattle.search_team.proofs.Begun.{maps_same, take_front}
 use Rattle.search_team.proofs.Stopped.{handed_back}
 use Rattle.search_team.proofs.team.pooled.Goals as goal
@@ -46,3 +47,9 @@ ended-requires-clause-room g c =
     let l3 = c.begun.new.jobs.ok.0 in
     let r = c.in-Ok.ensures.room in
     (r.0, r.1, omega (arith, size, long, l1, l2, l3, r.2), omega (arith, size, long, l1, l2, l3, r.3))
+
+pub run_all-requires-clause-jobs : goal.run_all-requires-clause-jobs
+run_all-requires-clause-jobs g c = λ κs within.
+    let p = c.args.problem.now in
+    subst (All (IsWorker p c.in-Ok.room.pool c.of-given.result.value.items c.all_start-from_start.result)) (sym c.as_mut_slice.ensures.value)
+    (λ k d lt. (c.begun.ensures.jobs k d lt, λ t. c.begun.ensures.ready (rw c.deref.ensures.value at (c.all_start-from_start.ensures t)) k d lt))

@@ -26,24 +26,25 @@ pub returns-in-Err-clause-answer : goal.returns-in-Err-clause-answer
 returns-in-Err-clause-answer g c = (
   c.loop-branch.left.items,
   c.loop-branch.invariant.left,
-  cause_left c.args.problem.now c.loop-branch.left.items c.pop.new.self.items c.in-Some.branch c.in-Err.halt.cause c.in-Some.ensures.items c.in-Err.ensures.answer.1,
+  cause_left c.args.problem.now c.loop-branch.left.items c.pop.new.self.items c.in-Some.branch c.in-Err.cause c.in-Some.ensures.items c.in-Err.ensures.answer,
 )
 
-pub expansion_of-requires-clause-walk : goal.expansion_of-requires-clause-walk
-expansion_of-requires-clause-walk g c = c.loop-branch.invariant.walk
+pub turn-requires-clause-walk : goal.turn-requires-clause-walk
+turn-requires-clause-walk g c = c.loop-branch.invariant.walk
 
-pub expansion_of-requires-clause-made : goal.expansion_of-requires-clause-made
-expansion_of-requires-clause-made g c =
+pub turn-requires-clause-made : goal.turn-requires-clause-made
+turn-requires-clause-made g c =
     last_made c.args.problem.now c.in-Some.branch c.loop-branch.left.items c.pop.new.self.items c.in-Some.ensures.items c.loop-branch.walk.given c.len-count.result (search rules) c.loop-branch.invariant.made
 
 pub loop-branch-smaller : goal.loop-branch-smaller
 loop-branch-smaller g c =
     let p = c.args.problem.now in
     let valid = c.dim-dim.ensures.valid in
-    let e = c.in-Ok.expansion in
-    let put = c.put_counting-cells.ensures.left ∙ ap (λ l. l ++ opened e) c.reserve.ensures.items in
+    let did = c.in-Ok.ensures.answer in
+    let e = did.0 in
+    let put = did.2 ∙ ap (λ l. l ++ opened e) c.reserve.ensures.items in
     subst (λ l. sum_by (weight (size_in p)) (branches_of l) < sum_by (weight (size_in p)) (branches_of c.loop-branch.left.items)) (sym put)
-    (turn_falls p (is_still_problem p valid c.requires.still) c.in-Some.branch c.loop-branch.left.items c.pop.new.self.items c.in-Some.ensures.items e c.in-Ok.ensures.answer (size_in p)
+    (turn_falls p (is_still_problem p valid c.requires.still) c.in-Some.branch c.loop-branch.left.items c.pop.new.self.items c.in-Some.ensures.items e did.1 (size_in p)
     (size_in_gives p (well_of p valid)))
 
 pub loop-branch-preserved : goal.loop-branch-preserved
@@ -56,23 +57,24 @@ loop-branch-preserved g c =
     let left = c.loop-branch.left.items in
     let rest = c.pop.new.self.items in
     let popped = c.in-Some.ensures.items in
-    let e = c.in-Ok.expansion in
-    let told = c.in-Ok.ensures.answer in
+    let did = c.in-Ok.ensures.answer in
+    let e = did.0 in
+    let told = did.1 in
     let before = c.loop-branch.invariant in
-    let put = c.put_counting-cells.ensures.left ∙ ap (λ l. l ++ opened e) c.reserve.ensures.items in
+    let put = did.2 ∙ ap (λ l. l ++ opened e) c.reserve.ensures.items in
     record {
-      tallies = subst (λ l. Tallies p given l c.put_counting-cells.result) (sym put)
-          (tally_turn p still b left rest popped e told given c.loop-branch.cells c.put_counting-cells.result c.put_counting-cells.ensures.cells before.tallies);
+      tallies = subst (λ l. Tallies p given l c.cells_after-cells.result) (sym put)
+          (tally_turn p still b left rest popped e told given c.loop-branch.cells c.cells_after-cells.result (rw did.3 at c.cells_after-cells.ensures) before.tallies);
       counts = λ size cost gives costs.
           subst (λ l. Counts cost top (branches_of given) c.count_after-solves.result (branches_of l)) (sym put)
           (turn_counts p still b left rest popped e told size cost gives costs given c.loop-branch.solves c.count_after-solves.result c.count_after-solves.ensures
           (before.counts size cost gives costs));
-      count = turn_count p b c.args.steps.now c.loop-branch.steps c.expansion_of.new.steps c.loop-branch.solves c.count_after-solves.result c.expansion_of.ensures.step c.expansion_of.ensures.no_step
+      count = turn_count p b c.args.steps.now c.loop-branch.steps c.turn.new.steps c.loop-branch.solves c.count_after-solves.result c.turn.ensures.step c.turn.ensures.no_step
           c.count_after-solves.ensures before.count;
       left = subst (λ l. Each l (IsLeft p given)) (sym put) (turn_left p given left rest b e popped told before.left);
-      walk = c.expansion_of.ensures.walk;
-      made = subst (λ l. Each (drop c.expansion_of.new.self.given l) (IsMade p)) (sym put)
-          (turn_made p (well_of p valid) b left rest popped e told c.loop-branch.walk.given c.expansion_of.new.self.given c.len-count.result (search rules) c.expansion_of.ensures.given before.made);
+      walk = c.turn.ensures.walk;
+      made = subst (λ l. Each (drop c.turn.new.walk.given l) (IsMade p)) (sym put)
+          (turn_made p (well_of p valid) b left rest popped e told c.loop-branch.walk.given c.turn.new.walk.given c.len-count.result (search rules) c.turn.ensures.given before.made);
     }
 
 pub returns-clause-answer : goal.returns-clause-answer

@@ -4,9 +4,10 @@ use Rattle.int_vectors.specs.Vectors.{Each}
 use Rattle.cayley.specs.Cells.{Cell}
 use Rattle.cayley.specs.Shares.{Branch, GivesShares, GivesSizes, GivesCosts}
 use Rattle.cayley.proofs.Searching.Steps.{Keeps, Counts, weight}
+use Rattle.cayley.specs.Stored.{cells_of}
 use Rattle.searcher.specs.Branches.{branches_of}
 use Rattle.searcher.specs.Expansions.{HasLowestNormal}
-use Rattle.searcher.specs.Searches.{IsLeft, IsCount, cells_of, top}
+use Rattle.searcher.specs.Searches.{IsLeft, IsCount, top}
 use Rattle.searcher.specs.Walks.{IsMade, IsWalk}
 use Rattle.searcher.proofs.Sizes.{size_in}
 use Rattle.searcher.proofs.Turns.{HasFit}

@@ -1,13 +1,14 @@
 use Rattle.std.proofs.Common.{rules, ◌≡◌, ◌∙◌, ◌+◌, ◌-◌, suc, ap, length, sym, subst, arith, IsTrue, refl, FitsSigned}
 use Rattle.std.proofs.Math.Facts.{to_z-of_z}
 use Rattle.std.specs.Int.{w128}
+use Rattle.wide_int.proofs.Turns.{next_below}
 use Rattle.int_vectors.specs.Vectors.{Each}
 use Rattle.cayley.specs.Problems.{Point, with_rank, point_at}
 use Rattle.cayley.specs.Stored.{point}
 use Rattle.cayley.specs.Valid.{IsCoordinate, support_at, file_count_at}
 use Rattle.start_system.specs.Corners.{points_at, direction_corner_at, IsFirstOf, IsDirectionOf}
 use Rattle.start_system.proofs.Judging.Supports.{support_of, with_corners_there, moving_at}
-use Rattle.start_system.proofs.Judging.Corners.{to_direction, from_directions, first_of, no_true, next_direction}
+use Rattle.start_system.proofs.Judging.Corners.{to_direction, from_directions, first_of, no_true}
 use Rattle.start_system.proofs.Making.Least.{least_small}
 use Rattle.start_system.proofs.checks.has_path_corners.Goals as goal
 
@@ -278,7 +279,7 @@ loop-k-preserved c =
     let y : IsTrue c.is_direction.result = search rules in
     let r : c.file_count-first.result + 1 + c.loop-k.k + 1 ≡ suc (f + suc c.loop-k.k) = omega (arith, e) in
     let other : point c.point-other.result.now ≡ with_rank 0 (direction_corner_at p i c.loop-k.k) = c.point-other.ensures.value ∙ ap (λ j. with_rank 0 (point_at s j)) r in
-    λ j l. simp to_z-of_z (next_direction (λ j. IsDirectionOf c.point-corner.result.now.coords c.reach-d.result (i - 1) j (direction_corner_at p i j)) c.loop-k.k
+    λ j l. simp to_z-of_z (next_below (λ j. IsDirectionOf c.point-corner.result.now.coords c.reach-d.result (i - 1) j (direction_corner_at p i j)) c.loop-k.k
     (λ j l. let inv = simp to_z-of_z at (c.loop-k.invariant j l) in inv)
     (subst (IsDirectionOf c.point-corner.result.now.coords c.reach-d.result (i - 1) c.loop-k.k) other (is.0 y)) j l)
 

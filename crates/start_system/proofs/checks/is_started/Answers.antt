@@ -1,7 +1,8 @@
 use Rattle.std.proofs.Common.{rules, ◌≡◌, ◌+◌, suc, subst, arith, refl, IsTrue}
+use Rattle.wide_int.proofs.Turns.{next_below}
 use Rattle.cayley.specs.Valid.{file_count_at, support_at}
 use Rattle.start_system.specs.Corners.{HasPathCorners}
-use Rattle.start_system.proofs.Judging.Corners.{no_true, next_direction}
+use Rattle.start_system.proofs.Judging.Corners.{no_true}
 use Rattle.start_system.proofs.Judging.StartedProblems.{all_started, started_all}
 use Rattle.start_system.proofs.checks.is_started.Goals as goal
 
@@ -24,7 +25,7 @@ loop-place-preserved c =
     let y : IsTrue c.has_path_corners.result = search rules in
     let k = c.loop-place.place in
     let o : k + 1 ≡ suc k = omega arith in
-    next_direction (λ j. HasPathCorners p.dimension (suc j) (file_count_at p (suc j)) (support_at p (suc j))) k c.loop-place.invariant
+    next_below (λ j. HasPathCorners p.dimension (suc j) (file_count_at p (suc j)) (support_at p (suc j))) k c.loop-place.invariant
     (subst (λ i. HasPathCorners p.dimension i (file_count_at p i) (support_at p i)) o (c.has_path_corners.ensures.0 y))
 
 pub returns : goal.returns

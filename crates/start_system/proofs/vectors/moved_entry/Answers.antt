@@ -4,8 +4,9 @@ use Rattle.std.proofs.Math.Facts.{to_z-of_z}
 use Rattle.std.proofs.Math.IntN.{◌+ℤ◌}
 use Rattle.int_vectors.specs.Vectors.{at}
 use Rattle.cayley.specs.Valid.{IsCoordinate, IsCornerCoordinate}
+use Rattle.cayley.proofs.Lists.Supports.{wider}
 use Rattle.start_system.proofs.Making.Entries.{small_at, moved_own, moved_other}
-use Rattle.start_system.proofs.Making.Numbers.{corner_fits, own_small, wider}
+use Rattle.start_system.proofs.Making.Numbers.{corner_fits, own_small}
 use Rattle.start_system.proofs.vectors.moved_entry.Goals as goal
 
 pub overflow_add-result : goal.overflow_add-result

@@ -2,9 +2,9 @@ use Rattle.std.proofs.Common.{rules, ◌≡◌, ◌∙◌, ◌<◌, List, ℤ, l
 use Rattle.std.specs.Int.{w64}
 use Rattle.std.proofs.lemmas.List.{length-map}
 use Rattle.int_vectors.specs.Bounds.{Within}
-use Rattle.int_vectors.specs.Vectors.{Each, dot, IsZero, IsOrthogonal}
+use Rattle.int_vectors.specs.Vectors.{Each, dot, IsZero, IsOrthogonal, row_at}
 use Rattle.inner_normal.specs.Inverses.{Inverse}
-use Rattle.carried_inverse.specs.Systems.{line, IsScaledInverse}
+use Rattle.carried_inverse.specs.Systems.{IsScaledInverse}
 use Rattle.carried_inverse.proofs.Exchanging.{exchange_inverts, made_long, over_above, dependent_rows}
 use Rattle.carried_inverse.proofs.Rooms.{written_long}
 use Rattle.carried_inverse.proofs.carried.Carried.exchange.Goals as goal
@@ -62,7 +62,7 @@ returns-in-Dependent c =
       ap (λ (xs : List (List ℤ)). mk c.self.inside.den xs) h.0 ∙ c.self.view_is,
       subst
           (λ (a : Inverse). (rows : List (List ℤ)) → length rows ≡ length a.columns → IsScaledInverse (length a.columns) rows a
-          → IsOrthogonal (set rows c.args.place c.args.row.now) (line a.columns c.args.place) × ¬ (IsZero (line a.columns c.args.place)))
+          → IsOrthogonal (set rows c.args.place c.args.row.now) (row_at a.columns c.args.place) × ¬ (IsZero (row_at a.columns c.args.place)))
           c.self.view_is
           (λ rows many g. dependent_rows (length c.self.inside.columns.items) c.args.place rows old c.args.row.now below many h.1 g),
     )

@@ -3,9 +3,9 @@ use Rattle.std.specs.Int.{w64, w128}
 use Rattle.int_vectors.specs.Bounds.{Within}
 use Rattle.int_vectors.specs.Vectors.{Each}
 use Rattle.inner_normal.specs.Inverses.{Inverse, scaled_columns, inverse_of}
-use Rattle.inner_normal.proofs.Meaning.{length-columns}
+use Rattle.inner_normal.proofs.Meaning.{length-columns, columns_long}
 use Rattle.carried_inverse.specs.Systems.{IsInverseOfCell}
-use Rattle.carried_inverse.proofs.FromRows.{columns_long, inverse_of_cell}
+use Rattle.carried_inverse.proofs.FromRows.{inverse_of_cell}
 use Rattle.carried_inverse.proofs.carried.Carried.of.Goals as goal
 
 pub invariant_of-result : goal.invariant_of-result

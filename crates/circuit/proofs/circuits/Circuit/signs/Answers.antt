@@ -2,7 +2,7 @@ use Rattle.std.proofs.Common.{rules, ◌∷◌, [], ◌+◌, ◌*◌, ◌-◌, �
 use Rattle.std.specs.Int.{w128}
 use Rattle.cayley.specs.declared.found.Sign.{Sign}
 use Rattle.cayley.specs.declared.found.Sign.TheVariants.{Plus}
-use Rattle.circuit.specs.Circuits.{sign_of}
+use Rattle.cayley.specs.Signs.{sign_of}
 use Rattle.inner_normal.proofs.PairNumbers.{pair_first, pair_second}
 use Rattle.circuit.proofs.circuits.Circuit.signs.Goals as goal
 

@@ -1,0 +1,6 @@
+pub mod Numbers
+pub mod Nodes
+pub mod Products
+pub mod Walled
+pub mod Laws
+pub mod Walks

@@ -1,0 +1,15 @@
+//! What is said of one node of a log by its matrix: nothing is eliminated.
+#![tactic(auto)]
+
+mod columns;
+mod judgement;
+mod judging;
+pub mod laws;
+mod numbers;
+mod products;
+mod walls;
+
+pub use judgement::Judgement;
+pub use judging::judge;
+pub use path_trace::TraceNode;
+pub use searcher::{Branch, Children};

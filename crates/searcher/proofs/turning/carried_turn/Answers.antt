@@ -1,0 +1,11 @@
+use Rattle.std.proofs.Common.{◌∙◌, subst}
+use Rattle.cone_walls.specs.Ends.{IsEndOf}
+use Rattle.searcher.proofs.turning.carried_turn.Goals as goal
+
+pub put_ended-answer-requires-clause-settled : goal.put_ended-answer-requires-clause-settled
+put_ended-answer-requires-clause-settled g c = (c.requires.made.0, c.requires.carries.1 c.args.branch.now.cell c.requires.made.0, c.requires.made.1)
+
+pub put_ended-answer-requires-clause-end : goal.put_ended-answer-requires-clause-end
+put_ended-answer-requires-clause-end g c =
+    let s = c.in-Some-seek.sought in
+    subst (λ z. IsEndOf c.args.problem.now z s.normal s.end) (c.in-Some.ensures.1 ∙ c.cell.ensures) c.in-Some-seek.ensures.found.1
