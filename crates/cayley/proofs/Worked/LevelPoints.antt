@@ -3,15 +3,18 @@ use Rattle.std.proofs.Common.{◌≡◌, ◌≢◌, ℕ, zero, suc, [], ◌∷�
 use Rattle.std.proofs.lemmas.Int.{ints}
 use Rattle.std.proofs.Math.IntN.{ℤ, pos}
 use Rattle.int_vectors.specs.Vectors.{dot, sub}
-use Rattle.cayley.specs.Times.{Time}
-use Rattle.cayley.specs.Problems.{Point, Problem, point_at}
+use Rattle.cayley.specs.Times.{Time, time_zero}
+use Rattle.cayley.specs.Problems.{Point, Problem, IsStill, point_at, file_points}
 use Rattle.cayley.specs.Problems.Version.{version1}
 use Rattle.cayley.specs.Files.{FilePoint, File}
 use Rattle.cayley.specs.Paths.{path, start_cell}
 use Rattle.cayley.specs.Cells.{IsIndependent, IsFurther}
 use Rattle.cayley.specs.Normals.{Normal, IsLevel}
+use Rattle.cayley.specs.Mixed.{IsAlive, IsMixedCell}
+use Rattle.cayley.specs.StillLaws.{AllRest}
 use Rattle.cayley.specs.Ties.{IsTie, IsTieFree}
 use Rattle.cayley.specs.Dependencies.{nth_support}
+use Rattle.cayley.proofs.Life.Still.{still_law, file_points_rest}
 
 abbrev file_point : ℤ → FilePoint
 file_point x = record { coordinates = x ∷ []; height = pos 7 }
@@ -93,3 +96,23 @@ least_tie = (
 
 pub not_tie_free : ¬ (IsTieFree level_path)
 not_tie_free free = free (start_cell level_path) seven flat start_tie
+
+-- ---- the file points alone: they rest, so what is alive at one time is alive at all
+level_still : IsStill level_path
+level_still = ((refl, (refl, tt)), tt)
+
+pub file_points_are_still : AllRest (file_points level_path)
+file_points_are_still = file_points_rest level_path level_still
+
+file_cell_alive : IsAlive (file_points level_path) ((1, 2) ∷ []) seven
+file_cell_alive = (
+  ((omega arith, omega arith, omega arith), tt),
+  independent_by 1 2 (λ x e. omega (arith, ints, e)),
+  (flat, (refl, ((refl, tt), tt)), ((λ c f. let p = f.0 in let q = f.1 in let n = f.2 in let i = f.3 in absurd (omega (arith, p, q, n, i))), tt)),
+)
+
+pub file_cell_always : (t : Time) → IsAlive (file_points level_path) ((1, 2) ∷ []) t
+file_cell_always t = still_law (file_points level_path) ((1, 2) ∷ []) seven t file_points_are_still file_cell_alive
+
+pub file_cell_mixed : IsMixedCell level_path ((1, 2) ∷ [])
+file_cell_mixed = file_cell_always time_zero

@@ -18,6 +18,7 @@ use Rattle.cayley.specs.Lives.Begin.{at_start}
 use Rattle.cayley.specs.Parents.{IsParent, InChain, IsInTree}
 use Rattle.cayley.specs.Parents.InChain.{here, up}
 use Rattle.cayley.specs.Shares.{Branch, IsShare, IsSize}
+use Rattle.cayley.specs.Strangers.{IsStranger}
 use Rattle.cayley.specs.Dependencies.{Numbers, total, IsFurtherAt, IsPositiveDependency}
 use Rattle.cayley.specs.Ties.{IsLevelAt, IsTieFree}
 use Rattle.cayley.specs.Flips.{IsOnlyLevel, IsLeastPredecessor, OneLevel}
@@ -30,6 +31,7 @@ use Rattle.cayley.proofs.Life.Decisions.{lined_cell}
 use Rattle.cayley.proofs.OneCell.MovingNormals.{Moving, moving, lined_frame, moving_normal, ahead_signs, late_signs}
 use Rattle.cayley.proofs.Searching.Parents.{less_irrefl}
 use Rattle.cayley.proofs.Searching.Members.{contains_has, has_contains}
+use Rattle.cayley.proofs.Searching.Strangers.{stranger_law}
 use Rattle.cayley.proofs.Flipping.FlipPlaces.{flip_law}
 use Rattle.cayley.proofs.Flipping.FlipChildren.{children_law}
 use Rattle.cayley.proofs.Life.LifeLaws.{child_law, tie_free_law}
@@ -187,6 +189,25 @@ none_mixed (x ∷ y ∷ cell) h = h.0.1
 
 pub lone_share : IsShare lone start_branch []
 lone_share = (tt, λ cell. ((λ h. absurd (contains_has [] cell h)), (λ h. absurd (none_mixed cell h.1))))
+
+-- ---- strangers: the endless cell doesn't begin at the start, and there is no fourth point
+pub endless_early : ¬ (AliveEarly lone endless)
+endless_early h = early_nowhere (IsAlive lone endless) (lined_cell lone endless lone_well) seven h endless_begins
+
+abbrev pub too_early : Branch
+too_early = record { cell = endless; begin = at_start }
+
+pub begins_otherwise : IsStranger lone too_early
+begins_otherwise = inr endless_early
+
+abbrev pub past_the_end : Branch
+past_the_end = record { cell = (3, 4) ∷ []; begin = at_start }
+
+pub no_such_pair : IsStranger lone past_the_end
+no_such_pair = inl (λ o. let p = o.0.2 in omega (arith, p))
+
+pub too_early_size : IsSize lone too_early 0
+too_early_size = (stranger_law lone too_early begins_otherwise).size
 
 -- ---- no tie
 level_heights : (t : Time) (v : Normal) (x y : Point) → x.coordinates ≡ y.coordinates → IsZero (gap t v x y) → (e : ℕ) → at (height t x) e ≡ at (height t y) e

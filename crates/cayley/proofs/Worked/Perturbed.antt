@@ -15,11 +15,13 @@ use Rattle.cayley.specs.Mixed.{IsAlive}
 use Rattle.cayley.specs.Lives.{AliveJustBefore, AliveEarly, BeginsAt, BeginsAs}
 use Rattle.cayley.specs.Lives.Begin.{at_time}
 use Rattle.cayley.specs.Dependencies.{Numbers, total, IsPositiveDependency}
+use Rattle.cayley.specs.LongerTimes.{HasRanksUpTo, IsZeroPast}
 use Rattle.cayley.specs.Ties.{IsLevelAt}
 use Rattle.cayley.specs.Flips.{IsOnlyLevel, Flips}
 use Rattle.cayley.proofs.Order.Lined.{Lined, early_from}
 use Rattle.cayley.proofs.OneCell.MovingNormals.{Moving, moving, IsFrame, lined_frame, moving_normal, ahead_signs}
 use Rattle.cayley.proofs.Flipping.FlipPlaces.{flip_law}
+use Rattle.cayley.proofs.Life.LongerTimes.{longer_times_law}
 use Rattle.cayley.proofs.Worked.ThreePoints.{independent_by}
 
 abbrev file_point : ℤ → FilePoint
@@ -164,3 +166,16 @@ next_begins = start_flips.begins ((3, 4) ∷ []) (inl (refl, omega (arith, ints)
 
 pub begin_met : BeginsAs perturbed ((3, 4) ∷ []) (at_time (pos 0 ∷ pos 0 ∷ pos 0 ∷ pos 1 ∷ []) (pos 1))
 begin_met = (third, refl, refl, next_begins)
+
+-- ---- ranks go up to 3 and not to 2, and so do the times at which a cell begins
+pub perturbed_ranks_to : HasRanksUpTo perturbed 3
+perturbed_ranks_to = ((omega arith, (omega arith, (omega arith, (omega arith, (omega arith, tt))))), tt)
+
+pub not_to_two : ¬ (HasRanksUpTo perturbed 2)
+not_to_two h = let k = h.0.1.1.0 in omega (arith, k)
+
+pub third_ends_there : IsZeroPast 3 third
+third_ends_there = (longer_times_law perturbed ((3, 4) ∷ []) 3 third perturbed_well perturbed_ranks_to).begins next_begins
+
+pub third_passes_two : ¬ (IsZeroPast 2 third)
+third_passes_two h = let e = h 3 (omega arith) in omega (arith, ints, e)
