@@ -15,3 +15,5 @@ pub mod Still
 pub mod Spots
 pub mod NamedTies
 pub mod LongerTimes
+pub mod Soon
+pub mod Mirror

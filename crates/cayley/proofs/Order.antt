@@ -2,8 +2,6 @@
 pub mod Lexicographic
 pub mod Proportion
 pub mod Lines
-pub mod Soon
-pub mod Mirror
 pub mod Times
 pub mod Lined
 pub mod Spans

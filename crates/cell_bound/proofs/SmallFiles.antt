@@ -10,7 +10,7 @@ use Rattle.cayley.specs.Files.{FilePoint, File, resting}
 use Rattle.cayley.specs.Paths.{least_coordinates, corner, later_corners, direction_corners, corners, default_start, default_starts_from, default_starts, starts_of, path_supports, path, simplex_edge}
 use Rattle.cayley.specs.Valid.{IsValidFile}
 use Rattle.cayley.proofs.OneCell.CellRows.{each_position}
-use Rattle.cayley.proofs.OneCell.Unperturbed.{unranked}
+use Rattle.cayley.proofs.Ranking.Unperturbed.{unranked}
 use Rattle.cayley.proofs.Ranking.Unranked.{unranked_ranked}
 use Rattle.start_system.proofs.Making.ValidPaths.{path_valid}
 use Rattle.start_system.proofs.Path.Positions.{point_mapped}

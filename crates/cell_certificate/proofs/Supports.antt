@@ -9,7 +9,7 @@ use Rattle.cayley.specs.Files.{FilePoint, File, resting, plain_problem}
 use Rattle.cayley.specs.Problems.{unperturbed}
 use Rattle.cayley.specs.Cells.{Cell, IsOf}
 use Rattle.cayley.proofs.Lists.Each.{map_map}
-use Rattle.cayley.proofs.Flipping.Places.{pairs_long}
+use Rattle.cayley.proofs.Lists.Pairs.{pairs_long}
 use Rattle.cell_certificate.specs.Sides.{seen, IsNear, IsPairOf}
 use Rattle.cell_certificate.proofs.PlainPoints.{resting_points}
 use Rattle.cell_certificate.proofs.Turns.{pair_at}

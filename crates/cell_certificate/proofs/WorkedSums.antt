@@ -26,11 +26,11 @@ use Rattle.inner_normal.proofs.CellAnswers.{rows_lengths, cell_kernel, kernel_de
 use Rattle.cell_certificate.proofs.Levels.{level_to}
 use Rattle.cell_certificate.proofs.MixedLines.{first_entries}
 use Rattle.cell_certificate.proofs.Multiples.{divides_whole, multiple_is, less_fits, rise_less}
-use Rattle.cell_certificate.proofs.Together.{pairs_map}
 use Rattle.cayley.specs.Resting.{normal_over}
 use Rattle.cayley.proofs.OneCell.CellRows.{rows_count}
 use Rattle.cayley.proofs.OneCell.RestingGaps.{level_from}
-use Rattle.cayley.proofs.OneCell.Unperturbed.{same_unperturbed, same_well, same_of, same_independent}
+use Rattle.cayley.proofs.Ranking.Unperturbed.{same_unperturbed, same_well, same_of, same_independent}
+use Rattle.cayley.proofs.Lists.Pairs.{pairs_map}
 
 lcm_up : (n j l : ℕ) (rows : List (List ℤ)) → IsReduced n j rows → 0 < l → 0 < lcm_from j l rows
 unfolding lcm_from
@@ -130,14 +130,12 @@ module _ (p : Problem) (cell : Cell) (well : IsProblem p) (of : IsOf p cell) (in
     pub reduced_further : FitsFurther p cell ps (pos l) → FitsFurther p cell v (pos d)
     reduced_further f =
         let e = multiple_is d j ps v up (proportion ∙ ap (λ n. scale (pos n) v) l_is) in
-        pairs_map p.supports cell (λ s a b. (c : ℕ) → FitsAt (pos l) ps s a b c) (λ s a b. (c : ℕ) → FitsAt (pos d) v s a b c) f
-        (λ s a b g c u. rise_less d j v (point_at s a) (point_at s c) j_up (subst₂ (λ n xs. FitsRise (pos n) xs (point_at s a) (point_at s c)) l_is e (g c u)))
+        pairs_map p.supports cell (λ s a b. (c : ℕ) → FitsAt (pos l) ps s a b c) (λ s a b. (c : ℕ) → FitsAt (pos d) v s a b c) (λ s a b g c u. rise_less d j v (point_at s a) (point_at s c) j_up (subst₂ (λ n xs. FitsRise (pos n) xs (point_at s a) (point_at s c)) l_is e (g c u))) f
 
     pub reduced_own : FitsOwn p cell ps (pos l) → FitsOwn p cell v (pos d)
     reduced_own f =
         let e = multiple_is d j ps v up (proportion ∙ ap (λ n. scale (pos n) v) l_is) in
-        pairs_map p.supports cell (λ s a b. FitsRise (pos l) ps (point_at s a) (point_at s b)) (λ s a b. FitsRise (pos d) v (point_at s a) (point_at s b)) f
-        (λ s a b g. rise_less d j v (point_at s a) (point_at s b) j_up (subst₂ (λ n xs. FitsRise (pos n) xs (point_at s a) (point_at s b)) l_is e g))
+        pairs_map p.supports cell (λ s a b. FitsRise (pos l) ps (point_at s a) (point_at s b)) (λ s a b. FitsRise (pos d) v (point_at s a) (point_at s b)) (λ s a b g. rise_less d j v (point_at s a) (point_at s b) j_up (subst₂ (λ n xs. FitsRise (pos n) xs (point_at s a) (point_at s b)) l_is e g)) f
 
   -- the elimination gives reduced rows, since the cell is independent
   with_made : (Q : Type 0) → ((made : List (List ℤ)) → elimination p.dimension (edge_rows p cell) ≡ Ok made → IsReducedOf p.dimension (edge_rows p cell) made → Q)

@@ -22,8 +22,9 @@ use Rattle.cayley.proofs.OneCell.CellRows.{InRange}
 use Rattle.cayley.proofs.OneCell.MovingNormals.{wall}
 use Rattle.cayley.proofs.OneCell.MovingWalls.{wall_is}
 use Rattle.cayley.proofs.OneCell.OneDependency.{sum_gap, dependency_law}
-use Rattle.cayley.proofs.OneCell.Unperturbed.{point_unranked, support_unranked, same_unperturbed, same_well, same_of, same_independent, same_further}
-use Rattle.cayley.proofs.Flipping.Places.{pairs_long, further_bound}
+use Rattle.cayley.proofs.Ranking.Unperturbed.{point_unranked, support_unranked, same_unperturbed, same_well, same_of, same_independent, same_further}
+use Rattle.cayley.proofs.Flipping.Places.{further_bound}
+use Rattle.cayley.proofs.Lists.Pairs.{pairs_long}
 use Rattle.crossing.specs.declared.line.WallLine.{WallLine}
 use Rattle.crossing.specs.Lines.{value}
 use Rattle.inner_normal.specs.Coefficients.{difference, products, coefficients_of, numbers_of}

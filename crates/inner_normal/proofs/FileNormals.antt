@@ -15,7 +15,7 @@ use Rattle.cayley.proofs.Lists.Each.{read_take}
 use Rattle.cayley.proofs.Algebra.ScaledInverse.{dot-scale}
 use Rattle.cayley.proofs.Algebra.RowNormals.{gap-at, at-zero}
 use Rattle.cayley.proofs.OneCell.CellNormals.{a_normal}
-use Rattle.cayley.proofs.OneCell.Unperturbed.{point_unranked, same_unperturbed, same_each_pair, same_of, same_independent, unranked}
+use Rattle.cayley.proofs.Ranking.Unperturbed.{point_unranked, same_unperturbed, same_each_pair, same_of, same_independent, unranked}
 use Rattle.cayley.proofs.Ranking.Unranked.{unranked_supports}
 use Rattle.inner_normal.specs.declared.moving.MovingNormal.{MovingNormal}
 use Rattle.inner_normal.specs.MovingNormals.{numerators, IsMovingNormal}

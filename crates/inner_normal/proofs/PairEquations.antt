@@ -16,7 +16,7 @@ use Rattle.cayley.proofs.Algebra.RowNormals.{gap-at, at-zero}
 use Rattle.cayley.proofs.OneCell.CellNormals.{same_long}
 use Rattle.cayley.proofs.OneCell.OneNormal.{same_values, same_lists}
 use Rattle.cayley.proofs.OneCell.MovingNormals.{Moving, moving, wall, IsFrame, moving_normal}
-use Rattle.cayley.proofs.OneCell.Unperturbed.{same_unperturbed, same_well, same_of, same_independent, each_pair_unranked, point_unranked}
+use Rattle.cayley.proofs.Ranking.Unperturbed.{same_unperturbed, same_well, same_of, same_independent, each_pair_unranked, point_unranked}
 use Rattle.cayley.proofs.Life.Targets.{height-first}
 use Rattle.inner_normal.specs.declared.moving.MovingNormal.{MovingNormal}
 use Rattle.inner_normal.specs.MovingNormals.{numerators, IsMovingNormal}

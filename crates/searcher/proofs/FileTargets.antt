@@ -15,7 +15,7 @@ use Rattle.cayley.proofs.Order.Lexicographic.{positive-same, not_both, three}
 use Rattle.cayley.proofs.OneCell.CellNormals.{a_normal}
 use Rattle.cayley.proofs.OneCell.OneNormal.{alive_by_any_normal}
 use Rattle.cayley.proofs.OneCell.RaisedRanks.{IsRankedAs, resting_value, still_gap, spread, spread_normal, positive_spread, zero_spread}
-use Rattle.cayley.proofs.OneCell.FilePointRanks.{Alike, Alikes, file_points_alike}
+use Rattle.cayley.proofs.Ranking.FilePointRanks.{Alike, Alikes, file_points_alike}
 use Rattle.cayley.proofs.Searching.FilePoints.{file_points_well}
 use Rattle.cayley.proofs.Lists.Supports.{each_support_long}
 use Rattle.cayley.proofs.Algebra.Dependence.{length-map}

@@ -13,9 +13,8 @@ use Rattle.cayley.proofs.Algebra.RowNormals.{at-zero, gap-at}
 use Rattle.cayley.proofs.Order.Lines.{Line, line_at}
 use Rattle.cayley.proofs.OneCell.CellNormals.{rises, length-rises, kills_to, rows_independent, long_rows}
 use Rattle.cayley.proofs.OneCell.CellLines.{lines, rise_line, sum_line, sum_line-at, a_dependency}
-use Rattle.cayley.proofs.Flipping.Neighbours.{potential, gap-potential, each_pair-left, each_pair-right, each_pair-append, edges-append, dot-sub}
+use Rattle.cayley.proofs.OneCell.Neighbours.{potential, gap-potential, each_pair-left, each_pair-right, each_pair-append, edges-append, dot-sub}
 use native.Mathlib.Decide.{dec_lt}
-use Rattle.cayley.proofs.Order.Soon.{each_pair-map}
 use Rattle.cayley.proofs.Flipping.PairOrder.{IsTurned, independent_turned}
 use Rattle.int_vectors.specs.Vectors.{weigh, IsZero, scale, dot, at, sub, comb, entries_at}
 use Rattle.int_vectors.proofs.Entries.{at-scale, at-add}
@@ -27,6 +26,7 @@ use Rattle.cayley.specs.Flips.{lesser, greater, rising}
 use Rattle.cayley.proofs.Flipping.Spots.{Spot, problem_of, with_pair}
 use Rattle.cayley.specs.Rows.{edges}
 use Rattle.cayley.proofs.Algebra.Dependence.{length-map}
+use Rattle.cayley.proofs.Lists.Pairs.{pairs_map}
 
 -- ---- the rising order of two positions
 pub lesser_is : (a b : ℕ) → a < b → lesser a b ≡ a
@@ -327,7 +327,7 @@ module _ (o : Spot) (x y z : ℕ) (k : Circuit o x y z) where
       same = edges-append o.sb (o.s ∷ o.sa) o.cb ((x, z) ∷ o.ca) o.long
 
       each_unit : (supports : List (List Point)) (cell : Cell) → EachPair supports cell P → EachPair supports cell (λ s a b. Unit {0})
-      each_unit supports cell f = each_pair-map supports cell P (λ s a b. Unit {0}) (λ s a b h. tt) f
+      each_unit supports cell f = pairs_map supports cell P (λ s a b. Unit {0}) (λ s a b h. tt) f
 
       length_edges : (supports : List (List Point)) (cell : Cell) (P : List Point → ℕ → ℕ → Type 0) → EachPair supports cell P → length (edges supports cell) ≡ length supports
       length_edges [] [] P e = refl

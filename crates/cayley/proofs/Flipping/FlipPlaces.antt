@@ -4,10 +4,10 @@ use Rattle.std.proofs.lemmas.Int.{ints}
 use Rattle.std.proofs.Math.IntN.{pos}
 use Rattle.cayley.proofs.Flipping.Exchange.{others_of, turn, exchange_independent, independent_turned_at}
 use Rattle.cayley.proofs.Flipping.FlipScenes.{InRange}
-use Rattle.cayley.proofs.Flipping.Places.{at_place_of, pairs_long, only_level_place, pair_at_spot, put_pair_spot, support_at_spot, level_point_of, further_bound, only_by_places}
+use Rattle.cayley.proofs.Flipping.Places.{at_place_of, only_level_place, pair_at_spot, put_pair_spot, support_at_spot, level_point_of, further_bound, only_by_places}
 use Rattle.cayley.proofs.Life.Levels.{before_none_below}
 use Rattle.cayley.proofs.Flipping.FlipSpots.{successors_are, predecessors_are, crosses, successor_begins, parent_is}
-use Rattle.cayley.proofs.OneCell.CellNumbers.{circuit_of_numbers}
+use Rattle.cayley.proofs.Flipping.CellNumbers.{circuit_of_numbers}
 use Rattle.cayley.specs.Problems.{Problem, point_at, IsProblem}
 use Rattle.cayley.specs.Times.{Time}
 use Rattle.cayley.specs.Normals.{Normal, IsNormal, NoneBelow}
@@ -18,6 +18,7 @@ use Rattle.cayley.specs.Flips.{rising, put_pair, for_first, for_second, IsSucces
 use Rattle.cayley.proofs.Flipping.Spots.{Spot, problem_of, with_pair, OnlyLevel, IsSuccessor, IsPredecessor}
 use Rattle.cayley.specs.Laws.{Exchange}
 use Rattle.cayley.specs.FlipLaws.{FlipLaw}
+use Rattle.cayley.proofs.Lists.Pairs.{pairs_long}
 
 -- the two cells by place are those by spot
 for_first_spot : (o : Spot) (x : ℕ × ℕ) (c : ℕ) → for_first (with_pair o x) (length o.cb) c ≡ with_pair o (rising x.1 c)

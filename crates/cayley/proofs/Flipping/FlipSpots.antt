@@ -7,10 +7,9 @@ use Rattle.cayley.proofs.Order.Proportion.{zero_in_proportion}
 use Rattle.cayley.proofs.Order.Lines.{line_at}
 use Rattle.cayley.proofs.Searching.Parents.{precedes_same}
 use Rattle.cayley.proofs.Flipping.Exchange.{others_of, here_of, all_of, IsOrthogonal, Circuit, turn, cycle, seen, rising_is, rising_turn}
-use Rattle.cayley.proofs.Order.Soon.{each_pair-map}
 use Rattle.cayley.proofs.Flipping.FlipScenes.{InRange, IsLevel, FurtherAbove, Scene, turn_scene, cycle_scene, other_scene}
 use Rattle.cayley.proofs.Flipping.FlipSides.{falls_where_before, precedes_scene, begins_rising}
-use Rattle.cayley.proofs.Flipping.FlipNeighbours.{both_pairs, successors_of, predecessors_of}
+use Rattle.cayley.proofs.Flipping.FlipNeighbours.{successors_of, predecessors_of}
 use Rattle.cayley.proofs.Life.Decisions.{begins_at_once, alive_before}
 use Rattle.int_vectors.specs.Vectors.{IsZero, IsPositive}
 use Rattle.cayley.specs.Times.{Time}
@@ -21,14 +20,15 @@ use Rattle.cayley.specs.Lives.{AliveJustBefore, BeginsAt}
 use Rattle.cayley.specs.Parents.{Precedes, IsParent}
 use Rattle.cayley.specs.Flips.{rising}
 use Rattle.cayley.proofs.Flipping.Spots.{Spot, problem_of, with_pair, LevelPoint, IsSuccessor, IsPredecessor}
+use Rattle.cayley.proofs.Lists.Pairs.{pairs_map, pairs_together}
 
 pub above_where : (t : Time) (v : Normal) (supports : List (List Point)) (cell : Cell)
     → EachPair supports cell (λ s a b. (c : ℕ) → IsFurther s a b c → IsPositive (gap t v (point_at s a) (point_at s c)) ⊎ IsZero (gap t v (point_at s a) (point_at s c)))
     → EachPair supports cell (λ s a b. (c : ℕ) → IsFurther s a b c → ¬ (IsZero (gap t v (point_at s a) (point_at s c))))
     → EachPair supports cell (FurtherAbove t v)
 above_where t v supports cell e f =
-    each_pair-map supports cell _ (FurtherAbove t v) (λ s a b h c i. elim (h.0 c i) [ inl p ↦ p | inr z ↦ absurd (h.1 c i z) ])
-    (both_pairs _ _ supports cell e f)
+    pairs_map supports cell _ (FurtherAbove t v) (λ s a b h c i. elim (h.0 c i) [ inl p ↦ p | inr z ↦ absurd (h.1 c i z) ])
+    (pairs_together supports cell _ _ e f)
 
 -- a scene from one of its cells, where the line falls
 unfoldable pub scene_of : (o : Spot) (t : Time) (a b c : ℕ) → IsProblem (problem_of o) → IsOf (problem_of o) (with_pair o (a, b)) → IsIndependent (problem_of o) (with_pair o (a, b))

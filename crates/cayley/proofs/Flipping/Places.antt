@@ -8,6 +8,7 @@ use Rattle.cayley.specs.Normals.{Normal, gap, IsNormal, NoneBelow}
 use Rattle.cayley.specs.Dependencies.{pair_at, nth_support}
 use Rattle.cayley.specs.Flips.{put_pair, IsOnlyLevel}
 use Rattle.cayley.proofs.Flipping.Spots.{Spot, problem_of, with_pair, LevelPoint, NoneLevel, OnlyLevel}
+use Rattle.cayley.proofs.Lists.Pairs.{pairs_long}
 
 pub record AtPlace (p : Problem) (cell : Cell) (j : ℕ) : Type 0 where
   pub o : Spot
@@ -35,12 +36,6 @@ at_place_of version n files (s ∷ supports) (x ∷ cell) (suc j) l b =
   where
     more : List Point → Problem → Problem
     more s r = record { version = version; dimension = n; files = files; supports = s ∷ r.supports }
-
-pub pairs_long : (supports : List (List Point)) (cell : Cell) (P : List Point → ℕ → ℕ → Type 0) → EachPair supports cell P → length supports ≡ length cell
-pairs_long [] [] P e = refl
-pairs_long [] (x ∷ cell) P e = absurd e
-pairs_long (s ∷ supports) [] P e = absurd e
-pairs_long (s ∷ supports) (x ∷ cell) P e = ap suc (pairs_long supports cell P e.1)
 
 pub only_level_place : (supports : List (List Point)) (cell : Cell) (j c : ℕ) (t : Time) (v : Normal) → OnlyLevel supports cell j c t v → suc j ≤ length cell
 only_level_place [] cell j c t v e = absurd e

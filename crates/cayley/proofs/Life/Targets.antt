@@ -20,12 +20,13 @@ use Rattle.cayley.proofs.Algebra.RowNormals.{at-zero}
 use Rattle.cayley.proofs.Order.Lexicographic.{positive-same, positive-scale}
 use Rattle.cayley.proofs.Order.Lines.{before_trans}
 use Rattle.cayley.proofs.Order.Lined.{further_cases}
-use Rattle.cayley.proofs.Flipping.Neighbours.{potential, gap-potential}
+use Rattle.cayley.proofs.OneCell.Neighbours.{potential, gap-potential}
 use Rattle.cayley.proofs.OneCell.CellLines.{base_of, height-at}
 use Rattle.cayley.proofs.OneCell.RaisedRanks.{resting_value, still_gap, spread, spread_normal, positive_spread, zero_spread}
-use Rattle.cayley.proofs.OneCell.FilePointRanks.{Alike, Alikes, file_points_alike}
+use Rattle.cayley.proofs.Ranking.FilePointRanks.{Alike, Alikes, file_points_alike}
 use Rattle.cayley.proofs.Life.Exits.{later_both}
 use Rattle.cayley.proofs.Algebra.Dependence.{length-map}
+use Rattle.cayley.proofs.Lists.Pairs.{pairs_both}
 
 -- ---- at all late times
 record LateOn (P : Time → Type 0) : Type 0 where
@@ -63,13 +64,6 @@ late_pairs [] [] P e = late_always _ (λ x. tt)
 late_pairs [] (pair ∷ cell) P e = absurd e
 late_pairs (s ∷ supports) [] P e = absurd e
 late_pairs (s ∷ supports) (pair ∷ cell) P e = late_both (λ x. P x s pair.0 pair.1) (λ x. EachPair supports cell (P x)) e.0 (late_pairs supports cell P e.1)
-
-pub pair_both : (supports : List (List Point)) (cell : Cell) (P Q R : List Point → ℕ → ℕ → Type 0)
-    → ((s : List Point) (a b : ℕ) → P s a b → Q s a b → R s a b) → EachPair supports cell P → EachPair supports cell Q → EachPair supports cell R
-pair_both [] [] P Q R h d e = tt
-pair_both [] (pair ∷ cell) P Q R h d e = e
-pair_both (s ∷ supports) [] P Q R h d e = e
-pair_both (s ∷ supports) (pair ∷ cell) P Q R h d e = (h s pair.0 pair.1 d.0 e.0, pair_both supports cell P Q R h d.1 e.1)
 
 -- ---- a corner is above at late times
 pub positive_first : (u : List ℤ) → pos 0 <ℤ at u 0 → IsPositive u
@@ -207,7 +201,7 @@ module _ (gs : List ℕ) (p goal : Problem) (cell : Cell) (w : Alikes gs p.suppo
       let n = mixed.2.0 in
       let Z : List Point → ℕ → ℕ → Type 0 = λ u a b. IsZero (gap time_zero n (point_at u a) (point_at u b)) in
       let OZ : List Point → ℕ → ℕ → Type 0 = λ u a b. Ordered u a b × IsZero (gap time_zero n (point_at u a) (point_at u b)) in
-      let oz = pair_both goal.supports cell Ordered Z OZ (λ u a b o z. (o, z)) mixed.0 mixed.2.1.1 in (
+      let oz = pairs_both goal.supports cell Ordered Z OZ (λ u a b o z. (o, z)) mixed.0 mixed.2.1.1 in (
         length-map (spread gs) n.entries ∙ mixed.2.1.0 ∙ sym ld,
         alike_to gs p.supports goal.supports cell OZ (λ s a b. IsZero (gap t (spread_normal gs n) (point_at s a) (point_at s b)))
             (λ s u a b k x.
@@ -224,7 +218,7 @@ module _ (gs : List ℕ) (p goal : Problem) (cell : Cell) (w : Alikes gs p.suppo
       let n = mixed.2.0 in
       let A : List Point → ℕ → ℕ → Type 0 = λ u a b. (c : ℕ) → IsFurther u a b c → IsPositive (gap time_zero n (point_at u a) (point_at u c)) in
       let OA : List Point → ℕ → ℕ → Type 0 = λ u a b. Ordered u a b × ((c : ℕ) → IsFurther u a b c → IsPositive (gap time_zero n (point_at u a) (point_at u c))) in
-      let oa = pair_both goal.supports cell Ordered A OA (λ u a b o z. (o, z)) mixed.0 mixed.2.2 in
+      let oa = pairs_both goal.supports cell Ordered A OA (λ u a b o z. (o, z)) mixed.0 mixed.2.2 in
       late_pairs p.supports cell (λ t s a b. (c : ℕ) → IsFurther s a b c → IsPositive (gap t (spread_normal gs n) (point_at s a) (point_at s c)))
       (alike_to gs p.supports goal.supports cell OA (λ s a b. LateOn (λ t. (c : ℕ) → IsFurther s a b c → IsPositive (gap t (spread_normal gs n) (point_at s a) (point_at s c))))
       (λ s u a b k x. late_further s a b (λ c t. IsPositive (gap t (spread_normal gs n) (point_at s a) (point_at s c))) (λ c f.

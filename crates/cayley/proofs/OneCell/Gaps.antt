@@ -7,7 +7,7 @@ use Rattle.cayley.proofs.Algebra.ScaledInverse.{dot-add, dot-scale, dot-zero}
 use Rattle.cayley.proofs.Algebra.RowNormals.{gap-at, at-zero}
 use Rattle.cayley.proofs.OneCell.CellNormals.{one_normal}
 use Rattle.cayley.proofs.Order.Times.{Same}
-use Rattle.cayley.proofs.Flipping.Neighbours.{potential, gap-potential}
+use Rattle.cayley.proofs.OneCell.Neighbours.{potential, gap-potential}
 use Rattle.int_vectors.specs.Vectors.{scale, add, sub, dot, at, at_place, entries_at}
 use Rattle.int_vectors.proofs.Entries.{at-scale, at-add}
 use Rattle.cayley.specs.Times.{Time}

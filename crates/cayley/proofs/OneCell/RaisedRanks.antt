@@ -12,7 +12,7 @@ use Rattle.cayley.proofs.Algebra.RowNormals.{at-zero}
 use Rattle.cayley.proofs.Algebra.ScaledInverse.{dot-zero}
 use Rattle.cayley.proofs.OneCell.CellLines.{base_of, height-at}
 use Rattle.cayley.proofs.Order.Lexicographic.{positive-same}
-use Rattle.cayley.proofs.Flipping.Neighbours.{potential, gap-potential}
+use Rattle.cayley.proofs.OneCell.Neighbours.{potential, gap-potential}
 
 -- k zeros first
 abbrev pub after_zeros : ℕ → List ℤ → List ℤ

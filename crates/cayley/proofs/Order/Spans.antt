@@ -14,7 +14,7 @@ use Rattle.cayley.proofs.Order.Lexicographic.{positive-same, not_both, zero-scal
 use Rattle.cayley.proofs.Order.Lines.{Line, line_at, Before, NotNegative, rises, level}
 use Rattle.cayley.proofs.Order.Proportion.{zero_in_proportion}
 use Rattle.cayley.proofs.Order.Times.{Same, same_sym, time_cases, turned, turned_one, turned_both}
-use Rattle.cayley.proofs.Order.Mirror.{turned_is}
+use Rattle.cayley.proofs.Life.Mirror.{turned_is}
 use Rattle.cayley.proofs.Order.Lined.{rise_of, before_rise, own_zero, each_has, line_same, turned_line, turn-back}
 use Rattle.cayley.proofs.Life.Begins.{RisenBy, last_rise, zero_there}
 use Rattle.cayley.proofs.Life.Crossings.{falls_back}

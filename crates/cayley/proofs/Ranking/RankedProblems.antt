@@ -7,7 +7,7 @@ use Rattle.cayley.specs.Problems.{Version, Point, Problem, EachSupport, HasNoCor
 use Rattle.cayley.specs.Problems.Version.{version1}
 use Rattle.cayley.specs.Valid.{IsWithinProblem, IsWithinCorners, AreDistinct, IsMoving, HasProblemShape, IsValidProblem}
 use Rattle.cayley.proofs.Lists.Each.{map_map, map_take, map_drop}
-use Rattle.cayley.proofs.OneCell.Unperturbed.{unranked, same_well}
+use Rattle.cayley.proofs.Ranking.Unperturbed.{unranked, same_well}
 use Rattle.cayley.proofs.Ranking.Unranked.{unranked_ranked, ranked_twice}
 
 -- a property of each support that doesn't look at ranks

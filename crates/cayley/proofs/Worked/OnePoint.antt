@@ -24,7 +24,7 @@ use Rattle.cayley.specs.Ties.{IsLevelAt, IsTieFree}
 use Rattle.cayley.specs.Flips.{IsOnlyLevel, IsLeastPredecessor, OneLevel}
 use Rattle.cayley.proofs.Algebra.RowNormals.{at-zero}
 use Rattle.cayley.proofs.OneCell.CellLines.{base_of, height-at}
-use Rattle.cayley.proofs.Flipping.Neighbours.{potential, gap-potential}
+use Rattle.cayley.proofs.OneCell.Neighbours.{potential, gap-potential}
 use Rattle.cayley.proofs.Order.Times.{same_before, before_same, never_before}
 use Rattle.cayley.proofs.Order.Lined.{Lined, early_from, early_nowhere}
 use Rattle.cayley.proofs.Life.Decisions.{lined_cell}

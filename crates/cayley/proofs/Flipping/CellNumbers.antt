@@ -5,7 +5,7 @@ use Rattle.std.proofs.Math.IntN.{ℤ, pos, ◌+ℤ◌, ◌-ℤ◌, ◌*ℤ◌, n
 use Rattle.wide_int.proofs.Ring.{as_D, Ds, same_D}
 use Rattle.int_vectors.proofs.Weighing.{weigh-append}
 use Rattle.cayley.proofs.Algebra.Kernel.{places, weigh-at}
-use Rattle.cayley.proofs.Flipping.Neighbours.{edges-append, dot-sub}
+use Rattle.cayley.proofs.OneCell.Neighbours.{edges-append, dot-sub}
 use Rattle.cayley.proofs.Flipping.Exchange.{Circuit, circuit_of}
 use Rattle.int_vectors.specs.Vectors.{weigh, dot, at, sub}
 use Rattle.cayley.specs.Problems.{Point, point_at}
