@@ -1,5 +1,5 @@
 -- what stands before and after a wall
-pub mod Spots
+pub mod OneSupport
 mod PairOrder
 pub mod Exchange
 pub mod Places

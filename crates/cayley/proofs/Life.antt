@@ -10,7 +10,7 @@ pub mod Walls
 pub mod LifeLaws
 pub mod Targets
 pub mod ShownTies
-mod StillGaps
+pub mod StillGaps
 pub mod Still
 pub mod Spots
 pub mod NamedTies

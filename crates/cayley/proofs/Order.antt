@@ -4,4 +4,5 @@ pub mod Proportion
 pub mod Lines
 pub mod Times
 pub mod Lined
+pub mod Zeros
 pub mod Spans

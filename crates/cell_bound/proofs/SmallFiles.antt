@@ -18,7 +18,7 @@ use Rattle.start_system.proofs.Path.Supports.{AreHeights}
 use Rattle.start_system.proofs.Path.Reach.{Long, Inside, length-least, inside_all, reach_positive}
 use Rattle.start_system.proofs.Started.Heights.{own_left_out, other_first, valid_lift, default_given, own_given}
 use Rattle.elimination_bound.specs.Bounds.{product, sum_over}
-use Rattle.cayley.proofs.Lists.Each.{each_append}
+use Rattle.int_vectors.proofs.Each.{each_append}
 use Rattle.cell_bound.specs.Ranges.{AreNear, HasRange, HaveRanges, FitsByRanges}
 use Rattle.cell_bound.specs.Quiet.{IsNarrow, IsQuiet, QuietLaw}
 use Rattle.cell_bound.specs.OwnLines.{QuietOwnLaw}

@@ -8,9 +8,9 @@ use Rattle.wide_int.proofs.CommonDivisors.{lcm_positive, quotient_times}
 use Rattle.wide_int.proofs.Signed.{abs_positive, neg_fits}
 use Rattle.int_vectors.specs.Vectors.{Each, scale, at, IsOrthogonal, zeros}
 use Rattle.reduced_rows.specs.Denominators.{lcm_from, FitsLcm, share, shares, FitsShares}
-use Rattle.reduced_rows.specs.Spans.{IsReduced, IsReducedOf}
+use Rattle.reduced_rows.specs.Spans.{IsReducedOf}
 use Rattle.reduced_rows.specs.Steps.{elimination}
-use Rattle.reduced_rows.proofs.Orthogonal.{length-shares}
+use Rattle.reduced_rows.proofs.Orthogonal.{length-shares, lcm_some}
 use Rattle.reduced_rows.proofs.Outcome.{reduced_means, kernel_means_it}
 use Rattle.reduced_rows.proofs.Solving.{column_solves}
 use Rattle.cayley.specs.Times.{time_zero}
@@ -31,11 +31,6 @@ use Rattle.cayley.proofs.OneCell.CellRows.{rows_count}
 use Rattle.cayley.proofs.OneCell.RestingGaps.{level_from}
 use Rattle.cayley.proofs.Ranking.Unperturbed.{same_unperturbed, same_well, same_of, same_independent}
 use Rattle.cayley.proofs.Lists.Pairs.{pairs_map}
-
-lcm_up : (n j l : ℕ) (rows : List (List ℤ)) → IsReduced n j rows → 0 < l → 0 < lcm_from j l rows
-unfolding lcm_from
-lcm_up n j l [] r p = p
-lcm_up n j l (row ∷ rows) r p = lcm_up n (suc j) _ rows r.2 (lcm_positive l (unsigned_abs (at row j)) p (abs_positive (at row j) r.0))
 
 no_zeros : (xs : List ℤ) → xs ++ zeros 0 ≡ xs
 unfolding zeros
@@ -83,7 +78,7 @@ module _ (p : Problem) (cell : Cell) (well : IsProblem p) (of : IsOf p cell) (in
     ps = shares p.dimension 0 l made
 
     l_up : 0 < l
-    l_up = lcm_up p.dimension 0 1 made red.reduced (omega arith)
+    l_up = lcm_some p.dimension 0 1 made (omega arith) red.reduced
 
     ps_long : length ps ≡ p.dimension
     ps_long = length-shares p.dimension 0 l made ∙ red.count

@@ -12,7 +12,7 @@ use Rattle.cayley.specs.Mixed.{IsAlive}
 use Rattle.cayley.specs.Normals.{Normal, IsNormal, IsAbove, IsLevel, IsBelow}
 use Rattle.cayley.specs.Valid.{IsValidProblem}
 use Rattle.cayley.proofs.Flipping.Places.{further_bound}
-use Rattle.cayley.proofs.Lists.Each.{all_each}
+use Rattle.int_vectors.proofs.Each.{all_each}
 use Rattle.cayley.proofs.OneCell.CellRows.{InRange}
 use Rattle.cayley.proofs.OneCell.MovingNormals.{Moving, wall}
 use Rattle.cayley.proofs.OneCell.MovingWalls.{wall_above, wall_level, wall_below}

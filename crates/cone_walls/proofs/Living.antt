@@ -8,7 +8,7 @@ use Rattle.cayley.specs.Cells.{Cell, IsOf, IsIndependent}
 use Rattle.cayley.specs.Dependencies.{pair_at, IsFurtherAt, nth_support}
 use Rattle.cayley.specs.Normals.{IsAbove}
 use Rattle.cayley.specs.Mixed.{IsAlive}
-use Rattle.cayley.proofs.Lists.Each.{all_each, each_all, each_weaker, each_both}
+use Rattle.int_vectors.proofs.Each.{all_each, each_all, each_weaker, each_both}
 use Rattle.cayley.proofs.OneCell.OneNormal.{one_normal_law, alive_by_any_normal}
 use Rattle.crossing.specs.declared.line.WallLine.{WallLine}
 use Rattle.crossing.specs.declared.entry.Entry.TheVariants.{Dead}

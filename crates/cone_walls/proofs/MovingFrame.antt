@@ -3,12 +3,11 @@ use Rattle.std.proofs.Common.{◌≡◌, ℕ, List, [], ◌∷◌, length, arith
 use Rattle.std.proofs.lemmas.Int.{ints}
 use Rattle.std.proofs.Math.IntN.{ℤ, pos, ◌+ℤ◌, ◌*ℤ◌, *ℤ_comm}
 use Rattle.int_vectors.specs.Vectors.{IsZero, add, sub, scale, comb, at}
-use Rattle.int_vectors.proofs.Entries.{at-scale, at-add, zero_from}
+use Rattle.int_vectors.proofs.Entries.{at-scale, at-add, zero_from, at-zero}
 use Rattle.cayley.specs.Times.{Time, time_zero}
 use Rattle.cayley.specs.Problems.{Point, Problem, point_at, unperturbed}
 use Rattle.cayley.specs.Cells.{Cell}
 use Rattle.cayley.specs.Normals.{Normal, height, gap}
-use Rattle.cayley.proofs.Algebra.RowNormals.{at-zero}
 use Rattle.cayley.proofs.Order.Lines.{Line, line_at}
 use Rattle.cayley.proofs.OneCell.MovingNormals.{Moving, moving, wall, moving_gap, IsFrame}
 use Rattle.cayley.proofs.Lists.Pairs.{pairs_both}

@@ -17,10 +17,6 @@ pub all_one : {A : Type 0} (P : A → Type 0) (x : A) → P x → All P (x ∷ [
 all_one P x h zero d l = h
 all_one P x h (suc k) d l = absurd (omega arith)
 
-pub fault_by : (F G : Type 0) → (G → F) → (fault : FromFault) → IsFromFault F fault → IsFromFault G fault
-fault_by F G f Overflow n = λ g. n (f g)
-fault_by F G f OutOfMemory n = tt
-
 -- ---- one support
 split : (t u : Bool) (l : WallLine) (rest : List WallLine) → (if t then rest else if u then rest else l ∷ rest) ≡ (if t then [] else if u then [] else l ∷ []) ++ rest
 split true u l rest = refl

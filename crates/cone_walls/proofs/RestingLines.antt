@@ -12,7 +12,7 @@ use Rattle.cayley.specs.Valid.{IsValidProblem}
 use Rattle.cayley.specs.Valid as valid
 use Rattle.cayley.proofs.Algebra.ScaledInverse.{dot-zero}
 use Rattle.cayley.proofs.Flipping.Places.{further_bound}
-use Rattle.cayley.proofs.Lists.Each.{all_each, each_append, each_weaker}
+use Rattle.int_vectors.proofs.Each.{all_each, each_append, each_weaker}
 use Rattle.cayley.proofs.OneCell.CellRows.{InRange, each_position}
 use Rattle.cayley.proofs.Lists.Pairs.{pairs_long}
 use Rattle.crossing.specs.declared.line.WallLine.{WallLine}

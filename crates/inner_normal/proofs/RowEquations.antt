@@ -10,6 +10,7 @@ use Rattle.reduced_rows.specs.Steps.{OfLength}
 use Rattle.reduced_rows.proofs.Orthogonal.{length-shares}
 use Rattle.reduced_rows.proofs.Outcome.{reduced_means}
 use Rattle.reduced_rows.proofs.Solving.{column_solves}
+use Rattle.reduced_rows.proofs.Run.{each_longer}
 use Rattle.cayley.specs.Problems.{Problem, IsProblem, point_at}
 use Rattle.cayley.specs.Cells.{Cell, EachPair, IsOf}
 use Rattle.cayley.specs.Rows.{edge_rows}
@@ -24,10 +25,6 @@ append_assoc : (xs ys zs : List ℤ) → (xs ++ ys) ++ zs ≡ xs ++ (ys ++ zs)
 append_assoc [] ys zs = refl
 append_assoc (x ∷ xs) ys zs = ap (λ l. x ∷ l) (append_assoc xs ys zs)
 
-each_longer : (k m : ℕ) (rows : List (List ℤ)) → k < m → OfLength m rows → Each rows (λ row. k < length row)
-each_longer k m [] h e = tt
-each_longer k m (row ∷ rows) h e = (let f = e.0 in omega (arith, h, f), each_longer k m rows h e.1)
-
 module _ (p : Problem) (cell : Cell) (well : IsProblem p) (of : IsOf p cell) (made : List (List ℤ)) (eliminated : IsEliminated p.dimension (edge_rows p cell) made) where
   pub reduced_of : IsReducedOf p.dimension (edge_rows p cell) made
   reduced_of = reduced_means p.dimension (p.dimension + suc (suc p.dimension)) (edge_rows p cell) made (rows_count p cell well of) (rows_width p cell well of) eliminated.1
@@ -37,10 +34,10 @@ module _ (p : Problem) (cell : Cell) (well : IsProblem p) (of : IsOf p cell) (ma
 
   -- both columns are there
   pub resting_inside : Each made (λ row. length made < length row)
-  resting_inside = let e = reduced_of.count in each_longer (length made) (p.dimension + suc (suc p.dimension)) made (omega (arith, e)) widths
+  resting_inside = let e = reduced_of.count in each_longer (p.dimension + suc (suc p.dimension)) (length made) made (omega (arith, e)) widths
 
   pub moving_inside : Each made (λ row. suc (length made) < length row)
-  moving_inside = let e = reduced_of.count in each_longer (suc (length made)) (p.dimension + suc (suc p.dimension)) made (omega (arith, e)) widths
+  moving_inside = let e = reduced_of.count in each_longer (p.dimension + suc (suc p.dimension)) (suc (length made)) made (omega (arith, e)) widths
 
   resting_solved : IsOrthogonal (edge_rows p cell) (shares p.dimension 0 (denominator made) made ++ (pos (denominator made) ∷ []))
   unfolding zeros

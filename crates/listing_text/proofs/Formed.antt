@@ -11,7 +11,7 @@ use Rattle.cayley.specs.Files.{File, FilePoint, resting, plain_problem}
 use Rattle.cayley.specs.Valid.{IsValidFile}
 use Rattle.cayley.proofs.Ranking.PlainProblems.{plain_of, plain_unperturbed}
 use Rattle.cayley.proofs.Ranking.Unperturbed.{same_unperturbed, same_of}
-use Rattle.cayley.proofs.Lists.Each.{each_weaker}
+use Rattle.int_vectors.proofs.Each.{each_weaker}
 use Rattle.line_text.specs.Lines.{Row, lines_of, end_line_of}
 use Rattle.support_text.specs.declared.fault.Kind.TheVariants.{Count, Number, Range}
 use Rattle.support_text.specs.declared.fault.FormatFault.{FormatFault}

@@ -15,7 +15,7 @@ use Rattle.cayley.specs.Files.{File, FilePoint, resting, plain_problem}
 use Rattle.cayley.specs.Paths.{path}
 use Rattle.cayley.specs.Valid.{IsValidFile}
 use Rattle.cayley.specs.declared.found.FoundCell.{FoundCell}
-use Rattle.cayley.proofs.Lists.Each.{map_map, each_unmap, each_weaker}
+use Rattle.int_vectors.proofs.Each.{map_map, each_unmap, each_weaker}
 use Rattle.cayley.proofs.Ranking.PlainProblems.{plain_of, plain_valid}
 use Rattle.cayley.proofs.Ranking.Unperturbed.{same_of}
 use Rattle.searcher.specs.Workings.{FitsWorking}

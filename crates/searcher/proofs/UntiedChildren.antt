@@ -11,7 +11,6 @@ use Rattle.cayley.specs.Normals.{Normal, IsNormal, IsLevel, gap}
 use Rattle.cayley.specs.Parents.{ShareOne, DifferInOne, IsParent}
 use Rattle.cayley.specs.Ties.{IsLevelAt, TwoLevel}
 use Rattle.cayley.proofs.Flipping.FlipNeighbours.{NewPoint, new_point, Flat}
-use Rattle.cayley.proofs.Flipping.FlipScenes.{InRange}
 use Rattle.cayley.proofs.OneCell.Neighbours.{level_pair, level_back}
 use Rattle.cayley.proofs.Life.Decisions.{alive_after, alive_before}
 use Rattle.cayley.proofs.Life.Exits.{precedes_ends}
@@ -20,6 +19,7 @@ use Rattle.cayley.proofs.OneCell.Gaps.{gap_two}
 use Rattle.cayley.proofs.Order.Proportion.{zero_in_proportion}
 use Rattle.cayley.proofs.Searching.Parents.{precedes_same}
 use Rattle.cayley.proofs.Lists.Pairs.{pairs_together}
+use Rattle.cayley.proofs.OneCell.CellRows.{InRange}
 use Rattle.searcher.specs.Ends.{IsTiedAtBegin, IsTiedAtEnd}
 
 -- the point c of support j is further and level

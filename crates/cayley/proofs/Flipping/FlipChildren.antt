@@ -12,7 +12,7 @@ use Rattle.cayley.specs.Dependencies.{pair_at, nth_support}
 use Rattle.cayley.specs.Ties.{IsLevelAt}
 use Rattle.cayley.specs.Flips.{IsOnlyLevel}
 use Rattle.cayley.specs.FlipLaws.{ChildrenLaw}
-use Rattle.cayley.proofs.Flipping.Spots.{problem_of, with_pair, OnlyLevel}
+use Rattle.cayley.proofs.Flipping.OneSupport.{problem_of, with_pair, OnlyLevel}
 use Rattle.cayley.proofs.Flipping.Places.{at_place_of, further_bound, place_of, level_point_of, only_by_places}
 use Rattle.cayley.proofs.OneCell.OneNormal.{all_above_any}
 use Rattle.cayley.proofs.Life.Ends.{ends_at_once}

@@ -6,7 +6,7 @@ use Rattle.cayley.proofs.Life.Decisions.{alive_after, alive_before}
 use Rattle.cayley.proofs.OneCell.Neighbours.{level_pair, level_back}
 use Rattle.cayley.proofs.OneCell.CellLines.{point_line}
 use Rattle.cayley.proofs.Flipping.Exchange.{others_of, here_of, turn, cycle, by_rising, rising_is, rising_turn}
-use Rattle.cayley.proofs.Flipping.FlipScenes.{InRange, IsLevel, FurtherAbove, Scene, turn_scene, cycle_scene, other_scene, of_scene, normal_scene}
+use Rattle.cayley.proofs.Flipping.FlipScenes.{IsLevel, FurtherAbove, Scene, turn_scene, cycle_scene, other_scene, of_scene, normal_scene}
 use Rattle.cayley.proofs.Flipping.FlipSides.{rising_after, rising_before}
 use Rattle.int_vectors.specs.Vectors.{IsPositive}
 use Rattle.int_vectors.proofs.Entries.{not_zero}
@@ -17,9 +17,10 @@ use Rattle.cayley.specs.Cells.{Cell, EachPair, IsOf, IsIndependent, IsFurther}
 use Rattle.cayley.specs.Lives.{AliveJustAfter, AliveJustBefore}
 use Rattle.cayley.specs.Parents.{Precedes, ShareOne, DifferInOne}
 use Rattle.cayley.specs.Flips.{rising}
-use Rattle.cayley.proofs.Flipping.Spots.{Spot, problem_of, with_pair}
+use Rattle.cayley.proofs.Flipping.OneSupport.{OneSupport, problem_of, with_pair}
 use Rattle.cayley.proofs.Life.Exits.{differ_sym}
 use Rattle.cayley.proofs.Lists.Pairs.{pairs_map, pairs_together}
+use Rattle.cayley.proofs.OneCell.CellRows.{InRange}
 
 -- the point that is new in a pair that has one point of another
 pub record NewPoint (t : Time) (w : Normal) (s : List Point) (a b : ℕ) (pair : ℕ × ℕ) : Type 0 where
@@ -93,7 +94,7 @@ changed t w (r ∷ sb) s sa (z ∷ cb) x ca (y ∷ tau) e f g (inr d) =
     let q = changed t w sb s sa cb x ca tau e.1 f g.1 d.1 in
     record { y = q.y; tau_is = ap₂ (λ i l. i ∷ l) (sym d.0) q.tau_is; share = q.share; flat = q.flat }
 
-module _ (o : Spot) (t : Time) (x y z : ℕ) (c : Scene o t x y z) (less : x < y) (ind : IsIndependent (problem_of o) (with_pair o (x, y))) (w : Normal) (is : IsNormal (problem_of o) (with_pair o (x, y)) t w) where
+module _ (o : OneSupport) (t : Time) (x y z : ℕ) (c : Scene o t x y z) (less : x < y) (ind : IsIndependent (problem_of o) (with_pair o (x, y))) (w : Normal) (is : IsNormal (problem_of o) (with_pair o (x, y)) t w) where
   -- above at one normal, above at the other
   carried : (p q : Point) → IsPositive (gap t c.v p q) → IsPositive (gap t w p q)
   carried p q h =
@@ -126,7 +127,7 @@ pub swap_sum : {A B : Type 0} → A ⊎ B → B ⊎ A
 swap_sum (inl a) = inr a
 swap_sum (inr b) = inl b
 
-pub neighbour_rising : (o : Spot) (t : Time) (x y z : ℕ) (c : Scene o t x y z) (tau : Cell) → IsIndependent (problem_of o) (with_pair o (rising x y)) → IsOf (problem_of o) tau → DifferInOne (with_pair o (rising x y)) tau
+pub neighbour_rising : (o : OneSupport) (t : Time) (x y z : ℕ) (c : Scene o t x y z) (tau : Cell) → IsIndependent (problem_of o) (with_pair o (rising x y)) → IsOf (problem_of o) tau → DifferInOne (with_pair o (rising x y)) tau
     → (w : Normal) → IsNormal (problem_of o) (with_pair o (rising x y)) t w → IsNormal (problem_of o) tau t w → (tau ≡ with_pair o (rising x z)) ⊎ (tau ≡ with_pair o (rising y z))
 neighbour_rising o t x y z c tau =
     by_rising (λ q. IsIndependent (problem_of o) (with_pair o q) → IsOf (problem_of o) tau → DifferInOne (with_pair o q) tau
@@ -136,7 +137,7 @@ neighbour_rising o t x y z c tau =
 
 -- alive somewhere
 -- the other two pairs of the scene, with the sign of the point each leaves out
-pub successors_of : (o : Spot) (t : Time) (x y z : ℕ) (c : Scene o t x y z) (tau : Cell) → Precedes (problem_of o) (with_pair o (rising x y)) tau t
+pub successors_of : (o : OneSupport) (t : Time) (x y z : ℕ) (c : Scene o t x y z) (tau : Cell) → Precedes (problem_of o) (with_pair o (rising x y)) tau t
     → ((tau ≡ with_pair o (rising x z)) × (c.circuit.ly <ℤ pos 0)) ⊎ ((tau ≡ with_pair o (rising y z)) × (c.circuit.lx <ℤ pos 0))
 unfolding other_scene turn_scene cycle_scene turn cycle
 successors_of o t x y z c tau h =
@@ -147,7 +148,7 @@ successors_of o t x y z c tau h =
       | inr e ↦ inr (e, rising_after o t y z x (cycle_scene o t x y z c) (subst (λ i. AliveJustAfter (problem_of o) i t) e h.2))
     ]
 
-pub predecessors_of : (o : Spot) (t : Time) (x y z : ℕ) (c : Scene o t x y z) (rho : Cell) → Precedes (problem_of o) rho (with_pair o (rising x y)) t
+pub predecessors_of : (o : OneSupport) (t : Time) (x y z : ℕ) (c : Scene o t x y z) (rho : Cell) → Precedes (problem_of o) rho (with_pair o (rising x y)) t
     → ((rho ≡ with_pair o (rising x z)) × (pos 0 <ℤ c.circuit.ly)) ⊎ ((rho ≡ with_pair o (rising y z)) × (pos 0 <ℤ c.circuit.lx))
 unfolding other_scene turn_scene cycle_scene turn cycle
 predecessors_of o t x y z c rho h =

@@ -6,7 +6,6 @@ use native.Mathlib.Decide.{ℕ_discrete}
 use Rattle.wide_int.proofs.Ring.{as_D, Ds, same_D}
 use Rattle.wide_int.proofs.Order.{zero_product}
 use Rattle.cayley.proofs.Order.Proportion.{in_proportion, zero_in_proportion}
-use Rattle.cayley.proofs.Algebra.RowNormals.{at-zero}
 use Rattle.cayley.proofs.Order.Lines.{Line, line_at}
 use Rattle.cayley.proofs.OneCell.Neighbours.{level_pair, level_back, dot-sub}
 use Rattle.cayley.proofs.Life.Soon.{SoonAbove, soon_above_now, alive_soon}
@@ -14,17 +13,15 @@ use Rattle.cayley.proofs.Flipping.PairOrder.{above_other}
 use Rattle.cayley.proofs.Flipping.Exchange.{Others, others_of, here_of, all_of, IsOrthogonal, Circuit, turn, cycle, negate, opposite, opposite-at, seen, orthogonal}
 use Rattle.cayley.proofs.Life.Mirror.{LateAbove, late_above_now, alive_lately}
 use Rattle.int_vectors.specs.Vectors.{IsZero, IsPositive, dot}
-use Rattle.int_vectors.proofs.Entries.{zero_from}
+use Rattle.int_vectors.proofs.Entries.{zero_from, at-zero}
 use Rattle.cayley.specs.Times.{Time}
 use Rattle.cayley.specs.Problems.{Point, point_at, IsProblem}
 use Rattle.cayley.specs.Normals.{Normal, gap, IsNormal, NoneBelow}
 use Rattle.cayley.specs.Cells.{IsOf, IsIndependent, IsFurther}
 use Rattle.cayley.specs.Lives.{AliveJustAfter, AliveJustBefore}
-use Rattle.cayley.proofs.Flipping.Spots.{Spot, problem_of, with_pair}
+use Rattle.cayley.proofs.Flipping.OneSupport.{OneSupport, problem_of, with_pair}
 use Rattle.cayley.proofs.Lists.Pairs.{pairs_map}
-
-abbrev pub InRange : List Point → ℕ → ℕ → Type 0
-InRange s a b = (1 ≤ a) × (a < b) × (b ≤ length s)
+use Rattle.cayley.proofs.OneCell.CellRows.{InRange}
 
 abbrev pub IsLevel : Time → Normal → List Point → ℕ → ℕ → Type 0
 IsLevel t v s a b = IsZero (gap t v (point_at s a) (point_at s b))
@@ -32,7 +29,7 @@ IsLevel t v s a b = IsZero (gap t v (point_at s a) (point_at s b))
 abbrev pub FurtherAbove : Time → Normal → List Point → ℕ → ℕ → Type 0
 FurtherAbove t v s a b = (f : ℕ) → IsFurther s a b f → IsPositive (gap t v (point_at s a) (point_at s f))
 
-pub record Scene (o : Spot) (t : Time) (x y z : ℕ) : Type 0 where
+pub record Scene (o : OneSupport) (t : Time) (x y z : ℕ) : Type 0 where
   pub well : IsProblem (problem_of o)
   pub range : Others o InRange
   pub in_x : (1 ≤ x) × (x ≤ length o.s)
@@ -65,7 +62,7 @@ orthogonal_pair w s a b c e f =
     let i = dot-sub (point_at s c).coordinates (point_at s b).coordinates w in
     omega (arith, ints, e, f, g, h, i)
 
-unfoldable pub turn_scene : (o : Spot) (t : Time) (x y z : ℕ) → Scene o t x y z → Scene o t y x z
+unfoldable pub turn_scene : (o : OneSupport) (t : Time) (x y z : ℕ) → Scene o t x y z → Scene o t y x z
 unfolding turn
 turn_scene o t x y z c =
     let p = point_at o.s x in
@@ -92,7 +89,7 @@ turn_scene o t x y z c =
       falls = c.falls;
     }
 
-unfoldable pub cycle_scene : (o : Spot) (t : Time) (x y z : ℕ) → Scene o t x y z → Scene o t y z x
+unfoldable pub cycle_scene : (o : OneSupport) (t : Time) (x y z : ℕ) → Scene o t x y z → Scene o t y z x
 unfolding cycle
 cycle_scene o t x y z c =
     let p = point_at o.s x in
@@ -120,11 +117,11 @@ cycle_scene o t x y z c =
     }
 
 -- the point left out of the pair changes: z for y
-unfoldable pub other_scene : (o : Spot) (t : Time) (x y z : ℕ) → Scene o t x y z → Scene o t x z y
+unfoldable pub other_scene : (o : OneSupport) (t : Time) (x y z : ℕ) → Scene o t x y z → Scene o t x z y
 unfolding turn_scene cycle_scene
 other_scene o t x y z c = cycle_scene o t y x z (turn_scene o t x y z c)
 
-module _ (o : Spot) (t : Time) (x y z : ℕ) (c : Scene o t x y z) where
+module _ (o : OneSupport) (t : Time) (x y z : ℕ) (c : Scene o t x y z) where
   -- exchange at the scene
   pub independent_scene : c.circuit.lz ≢ pos 0 → IsIndependent (problem_of o) (with_pair o (x, y))
   independent_scene some w l e =

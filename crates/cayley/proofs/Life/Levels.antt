@@ -3,7 +3,6 @@ use Rattle.std.proofs.Common.{◌⊎◌, ℕ, zero, suc, ◌<◌, List, [], ◌�
 use native.Mathlib.Decide.{ℕ_discrete}
 use Rattle.cayley.proofs.Order.Lexicographic.{positive-same}
 use Rattle.cayley.proofs.Order.Proportion.{either_in_proportion, in_proportion}
-use Rattle.cayley.proofs.Algebra.RowNormals.{at-zero}
 use Rattle.cayley.proofs.Order.Lines.{Line, line_at, just_after_to, middle}
 use Rattle.cayley.proofs.OneCell.CellLines.{exact_line}
 use Rattle.cayley.proofs.Order.Times.{turned}
@@ -11,7 +10,7 @@ use Rattle.cayley.proofs.Order.Lined.{Lined, Ahead, mirrored, ahead_to, after_to
 use Rattle.cayley.proofs.Life.Walls.{SomeFurther}
 use Rattle.cayley.proofs.Life.Decisions.{alive_after, alive_before}
 use Rattle.int_vectors.specs.Vectors.{IsZero, IsPositive}
-use Rattle.int_vectors.proofs.Entries.{zero_from}
+use Rattle.int_vectors.proofs.Entries.{zero_from, at-zero}
 use Rattle.cayley.specs.Times.{Time, IsBefore}
 use Rattle.cayley.specs.Problems.{Point, Problem, point_at, IsProblem}
 use Rattle.cayley.specs.Normals.{Normal, gap, IsNormal, NoneBelow}

@@ -4,7 +4,7 @@ use Rattle.std.proofs.lemmas.Int.{ints}
 use Rattle.std.proofs.Math.IntN.{ℤ, pos, ◌+ℤ◌, ◌-ℤ◌, ◌*ℤ◌}
 use Rattle.wide_int.proofs.Order.{zero_product}
 use Rattle.int_vectors.specs.Vectors.{IsZero, at, at_place, dot, entries_at}
-use Rattle.int_vectors.proofs.Entries.{at-scale, at-add, not_zero}
+use Rattle.int_vectors.proofs.Entries.{at-scale, at-add, not_zero, at-zero}
 use Rattle.cayley.specs.Times.{Time, time_zero}
 use Rattle.cayley.specs.Problems.{Point, Problem, point_at, IsProblem}
 use Rattle.cayley.specs.Cells.{Cell, IsOf, IsIndependent}
@@ -15,7 +15,6 @@ use Rattle.cayley.specs.StoredTies.{Spot, IsAlwaysLevel}
 use Rattle.cayley.specs.NamedTies.{IsLevelThen}
 use Rattle.cayley.specs.LongerTimes.{HasRanksUpTo, IsZeroPast, LongerTimesLaw}
 use Rattle.cayley.proofs.Algebra.ScaledInverse.{dot-zero}
-use Rattle.cayley.proofs.Algebra.RowNormals.{at-zero}
 use Rattle.cayley.proofs.Lists.KnownPoints.{known_at, known_support, known_pairs}
 use Rattle.cayley.proofs.Order.Lines.{line_at}
 use Rattle.cayley.proofs.OneCell.Neighbours.{potential, gap-potential, dot-sub}

@@ -21,9 +21,9 @@ use Rattle.cayley.proofs.OneCell.CellNormals.{a_normal}
 use Rattle.cayley.proofs.OneCell.CellLines.{ExactLine, exact_line}
 use Rattle.cayley.proofs.Life.Spots.{spot_cases, first_spot, first_two, one_first, same_two}
 use Rattle.cayley.proofs.Life.ShownTies.{shown_tie_law}
-use Rattle.cayley.proofs.Life.Begins.{zero_there}
 use Rattle.cayley.proofs.Life.StillGaps.{not_zero_over}
 use Rattle.cayley.proofs.Lists.Pairs.{pairs_further}
+use Rattle.cayley.proofs.Order.Zeros.{zero_there}
 
 -- ---- further points by their places
 abbrev pub points_in : List (List Point) → ℕ

@@ -8,7 +8,7 @@ use native.Mathlib.Decide.{ℕ_discrete, dec_le}
 use Rattle.wide_int.proofs.Ring.{as_D, Ds, same_D, D-pos, neg_mul_ℤ}
 use Rattle.wide_int.proofs.Order.{mul_le_ℤ}
 use Rattle.int_vectors.specs.Vectors.{IsZero, IsPositive, dot, at, add, sub, scale, entries_at}
-use Rattle.int_vectors.proofs.Entries.{at-scale, at-add, zero_from}
+use Rattle.int_vectors.proofs.Entries.{at-scale, at-add}
 use Rattle.cayley.specs.Times.{Time, time_zero, IsBefore}
 use Rattle.cayley.specs.Problems.{Point, Problem, point_at, file_points}
 use Rattle.cayley.specs.Cells.{Cell, EachPair, IsOf, IsIndependent, IsFurther}
@@ -16,17 +16,16 @@ use Rattle.cayley.specs.Normals.{Normal, mark, height, gap, IsNormal, AllAbove}
 use Rattle.cayley.specs.Mixed.{IsAlive}
 use Rattle.cayley.specs.Lives.{AliveLate}
 use Rattle.cayley.specs.LifeLaws.{TargetLaw}
-use Rattle.cayley.proofs.Algebra.RowNormals.{at-zero}
-use Rattle.cayley.proofs.Order.Lexicographic.{positive-same, positive-scale}
 use Rattle.cayley.proofs.Order.Lines.{before_trans}
 use Rattle.cayley.proofs.Order.Lined.{further_cases}
 use Rattle.cayley.proofs.OneCell.Neighbours.{potential, gap-potential}
 use Rattle.cayley.proofs.OneCell.CellLines.{base_of, height-at}
-use Rattle.cayley.proofs.OneCell.RaisedRanks.{resting_value, still_gap, spread, spread_normal, positive_spread, zero_spread}
+use Rattle.cayley.proofs.OneCell.RaisedRanks.{still_gap, spread, spread_normal, positive_spread, zero_spread}
 use Rattle.cayley.proofs.Ranking.FilePointRanks.{Alike, Alikes, file_points_alike}
 use Rattle.cayley.proofs.Life.Exits.{later_both}
 use Rattle.cayley.proofs.Algebra.Dependence.{length-map}
 use Rattle.cayley.proofs.Lists.Pairs.{pairs_both}
+use Rattle.cayley.proofs.Life.StillGaps.{gap_zero, gap_positive}
 
 -- ---- at all late times
 record LateOn (P : Time → Type 0) : Type 0 where
@@ -158,17 +157,6 @@ alike_from gs (s ∷ supports) (u ∷ us) [] P Q R h w e d = e
 alike_from gs (s ∷ supports) (u ∷ us) (x ∷ cell) P Q R h w e d = (h s u x.0 x.1 w.0 e.0 d.0, alike_from gs supports us cell P Q R h w.1 e.1 d.1)
 
 -- ---- points of speed 0: a gap doesn't change over time
-pub still_zero : (t : Time) (v : Normal) (p q : Point) → p.speed ≡ pos 0 → q.speed ≡ pos 0 → IsZero (gap time_zero v p q) → IsZero (gap t v p q)
-still_zero t v p q sp sq z = zero_from _ (λ e. still_gap t v p q e sp sq ∙ ap (λ x. t.over *ℤ x) (level e) ∙ *ℤ-zero t.over)
-  where
-    level : (e : ℕ) → resting_value v q e -ℤ resting_value v p e ≡ pos 0
-    level e = let a = still_gap time_zero v p q e sp sq in let b = at-zero (gap time_zero v p q) e z in omega (arith, ints, a, b)
-
-pub still_positive : (t : Time) (v : Normal) (p q : Point) → p.speed ≡ pos 0 → q.speed ≡ pos 0 → IsPositive (gap time_zero v p q) → IsPositive (gap t v p q)
-still_positive t v p q sp sq h = positive-same (scale t.over (gap time_zero v p q)) _ same (positive-scale t.over (gap time_zero v p q) t.positive h)
-  where
-    first : (e : ℕ) → at (gap time_zero v p q) e ≡ resting_value v q e -ℤ resting_value v p e
-    first e = let a = still_gap time_zero v p q e sp sq in omega (arith, ints, a)
 
     same : (e : ℕ) → at (scale t.over (gap time_zero v p q)) e ≡ at (gap t v p q) e
     same e = at-scale t.over (gap time_zero v p q) e ∙ ap (λ x. t.over *ℤ x) (first e) ∙ sym (still_gap t v p q e sp sq)
@@ -207,7 +195,7 @@ module _ (gs : List ℕ) (p goal : Problem) (cell : Cell) (w : Alikes gs p.suppo
             (λ s u a b k x.
             let ra = k.file a x.0.0 (let y = x.0.1 in let z = x.0.2 in omega (arith, y, z)) in
             let rb = k.file b (let y = x.0.0 in let z = x.0.1 in omega (arith, y, z)) x.0.2 in
-            still_zero t (spread_normal gs n) (point_at s a) (point_at s b) ra.still rb.still
+            gap_zero time_zero t (spread_normal gs n) (point_at s a) (point_at s b) ra.still rb.still
             (zero_spread gs n (point_at u a) (point_at u b) (point_at s a) (point_at s b) ra rb x.1))
             w oz,
       )
@@ -227,7 +215,7 @@ module _ (gs : List ℕ) (p goal : Problem) (cell : Cell) (w : Alikes gs p.suppo
         | yes m ↦
             let rc = k.file c f.0 m in
             late_always (λ t. IsPositive (gap t (spread_normal gs n) (point_at s a) (point_at s c))) (λ t.
-            still_positive t (spread_normal gs n) (point_at s a) (point_at s c) ra.still rc.still
+            gap_positive time_zero t (spread_normal gs n) (point_at s a) (point_at s c) ra.still rc.still
             (positive_spread gs n (point_at u a) (point_at u c) (point_at s a) (point_at s c) ra rc (x.1 c (f.0, m, f.2, f.3))))
         | no m ↦ corner_late (spread_normal gs n) (point_at s a) (point_at s c) ra.still (k.corner c (omega arith) f.1)
       ]))

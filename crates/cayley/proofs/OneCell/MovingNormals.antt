@@ -8,13 +8,13 @@ use Rattle.std.proofs.Math.IntN.{ℤ, pos, ◌+ℤ◌, ◌-ℤ◌, ◌*ℤ◌, n
 use Rattle.wide_int.proofs.Ring.{as_D, Ds, same_D, D-pos}
 use Rattle.wide_int.proofs.Order.{mul_pos_ℤ}
 use Rattle.int_vectors.specs.Vectors.{Each, IsZero, IsPositive, add, sub, scale, dot, at, entries_at}
-use Rattle.int_vectors.proofs.Entries.{at-scale, at-add, zero_from}
+use Rattle.int_vectors.proofs.Entries.{at-scale, at-add, zero_from, at-zero}
 use Rattle.cayley.specs.Times.{Time}
 use Rattle.cayley.specs.Problems.{Point, Problem, IsProblem, origin, point_at}
 use Rattle.cayley.specs.Cells.{Cell, EachPair, IsOf, IsIndependent, IsFurther}
 use Rattle.cayley.specs.Normals.{Normal, mark, height, gap, IsNormal, values}
 use Rattle.cayley.specs.Mixed.{IsAlive}
-use Rattle.cayley.proofs.Algebra.RowNormals.{gap-at, at-zero}
+use Rattle.cayley.proofs.Algebra.RowNormals.{gap-at}
 use Rattle.cayley.proofs.OneCell.OneNormal.{all_above_any}
 use Rattle.cayley.proofs.Life.Ends.{Late}
 use Rattle.cayley.proofs.Searching.ComputedLaw.{late_from}
@@ -24,7 +24,7 @@ use Rattle.cayley.proofs.Order.Proportion.{in_proportion}
 use Rattle.cayley.proofs.Order.Times.{turned}
 use Rattle.cayley.proofs.Order.Lines.{Line, line_at, SignAfter}
 use Rattle.cayley.proofs.OneCell.CellLines.{base_of, height-at}
-use Rattle.cayley.proofs.Lists.Each.{each_append}
+use Rattle.int_vectors.proofs.Each.{each_append}
 use Rattle.cayley.proofs.Lists.Pairs.{pairs_map}
 
 -- over p / den moving by q / den: the values (Q p + P q) / (Q den) at the time P / Q

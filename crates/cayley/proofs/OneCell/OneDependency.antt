@@ -8,15 +8,13 @@ use Rattle.cayley.proofs.Order.Lexicographic.{minus_one}
 use Rattle.cayley.proofs.Order.Proportion.{in_proportion, zero_in_proportion}
 use Rattle.cayley.proofs.Algebra.ScaledInverse.{dot-zero}
 use Rattle.cayley.proofs.Algebra.RowDependencies.{IsDependency, multiple}
-use Rattle.cayley.proofs.Algebra.RowNormals.{at-zero}
 use Rattle.cayley.proofs.OneCell.CellNormals.{long-edges, rows_independent, long_rows}
 use Rattle.cayley.proofs.OneCell.CellLines.{a_dependency}
 use Rattle.cayley.proofs.OneCell.Neighbours.{potential, gap-potential, dot-sub}
 use Rattle.cayley.proofs.Flipping.CellNumbers.{total-lin, total-nothing, total-same, against, pair_row}
 use Rattle.cayley.proofs.Flipping.Places.{further_bound}
-use Rattle.cayley.proofs.Flipping.FlipScenes.{InRange}
 use Rattle.int_vectors.specs.Vectors.{weigh, IsZero, Each, scale, add, sub, dot, at, zeros, entries_at}
-use Rattle.int_vectors.proofs.Entries.{at-scale, at-add, length-zeros}
+use Rattle.int_vectors.proofs.Entries.{at-scale, at-add, length-zeros, at-zero}
 use Rattle.cayley.specs.Problems.{Point, origin, Problem, point_at, IsProblem}
 use Rattle.cayley.specs.Times.{Time}
 use Rattle.cayley.specs.Normals.{Normal, height, gap, IsNormal}
@@ -26,6 +24,7 @@ use Rattle.cayley.specs.Laws.{Sides, OneDependency}
 use Rattle.cayley.specs.Rows.{edges}
 use Rattle.cayley.proofs.Algebra.Dependence.{length-map}
 use Rattle.cayley.proofs.Lists.Pairs.{pairs_map, pairs_long}
+use Rattle.cayley.proofs.OneCell.CellRows.{InRange}
 
 -- ---- the sign
 total-two : (ms : List (ℤ × ℤ)) (supports : List (List Point)) (cell : Cell) (a b : ℤ) (f g : Point → ℤ) → total ms supports cell (λ q. a *ℤ f q +ℤ b *ℤ g q) ≡ a *ℤ total ms supports cell f +ℤ b *ℤ total ms supports cell g

@@ -13,8 +13,7 @@ use Rattle.cayley.specs.Mixed.{IsAlive}
 use Rattle.cayley.specs.Lives.{AliveEarly}
 use Rattle.wide_int.proofs.Ring.{as_D, Ds, same_D, mul_neg_ℤ}
 use Rattle.wide_int.proofs.Order.{mul_pos_ℤ}
-use Rattle.int_vectors.proofs.Entries.{at-scale, zero_from}
-use Rattle.cayley.proofs.Algebra.RowNormals.{at-zero}
+use Rattle.int_vectors.proofs.Entries.{at-scale, zero_from, at-zero}
 use Rattle.cayley.proofs.Order.Lexicographic.{minus_one, positive-scale}
 use Rattle.cayley.proofs.Order.Lines.{NotNegative}
 use Rattle.cayley.proofs.OneCell.CellLines.{base_of, height-at}

@@ -2,7 +2,7 @@ use Rattle.std.proofs.Common.{◌∙◌, map, sym, ap, subst}
 use Rattle.cayley.specs.Files.{plain_problem}
 use Rattle.cayley.specs.Stored.{file_point}
 use Rattle.cayley.specs.Valid.{IsValidFile}
-use Rattle.cayley.proofs.Lists.Each.{map_map}
+use Rattle.int_vectors.proofs.Each.{map_map}
 use Rattle.cayley.proofs.Ranking.MovedProblems.{second_counts}
 use Rattle.lift_move.specs.Segments.{lifted_supports}
 use Rattle.lift_move.proofs.Lifted.{second_valid, made_second, plain_end}
