@@ -20,7 +20,7 @@ use Rattle.cayley.proofs.Order.Lines.{before_trans}
 use Rattle.cayley.proofs.Order.Lined.{further_cases}
 use Rattle.cayley.proofs.OneCell.Neighbours.{potential, gap-potential}
 use Rattle.cayley.proofs.OneCell.CellLines.{base_of, height-at}
-use Rattle.cayley.proofs.OneCell.RaisedRanks.{still_gap, spread, spread_normal, positive_spread, zero_spread}
+use Rattle.cayley.proofs.OneCell.RaisedRanks.{spread, spread_normal, positive_spread, zero_spread}
 use Rattle.cayley.proofs.Ranking.FilePointRanks.{Alike, Alikes, file_points_alike}
 use Rattle.cayley.proofs.Life.Exits.{later_both}
 use Rattle.cayley.proofs.Algebra.Dependence.{length-map}
@@ -155,11 +155,6 @@ alike_from gs [] (u ∷ us) cell P Q R h w e d = absurd w
 alike_from gs (s ∷ supports) [] cell P Q R h w e d = absurd w
 alike_from gs (s ∷ supports) (u ∷ us) [] P Q R h w e d = e
 alike_from gs (s ∷ supports) (u ∷ us) (x ∷ cell) P Q R h w e d = (h s u x.0 x.1 w.0 e.0 d.0, alike_from gs supports us cell P Q R h w.1 e.1 d.1)
-
--- ---- points of speed 0: a gap doesn't change over time
-
-    same : (e : ℕ) → at (scale t.over (gap time_zero v p q)) e ≡ at (gap t v p q) e
-    same e = at-scale t.over (gap time_zero v p q) e ∙ ap (λ x. t.over *ℤ x) (first e) ∙ sym (still_gap t v p q e sp sq)
 
 -- ---- the cell in the path
 module _ (gs : List ℕ) (p goal : Problem) (cell : Cell) (w : Alikes gs p.supports goal.supports) (ld : p.dimension ≡ goal.dimension) (mixed : IsAlive goal cell time_zero) where
