@@ -1,7 +1,7 @@
 mod Rising
 pub mod Positions
 pub mod Turns
-pub mod Together
+mod Together
 pub mod Supports
 mod Coprime
 pub mod Levels
