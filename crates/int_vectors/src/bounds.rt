@@ -87,17 +87,20 @@ pub fn dot_behind(start: i128, a: &[i128], b: &[i128], w: u128) -> Option<i128>
     }
 }
 
+// `|pivot| * u + |factor| * v`, if it is below 2^128.
+fn products_sum(pivot: i128, u: u128, factor: i128, v: u128) -> Option<u128>
+    ensures { SomeIff result (unsigned_abs pivot * u + unsigned_abs factor * v < 2 ^ 128) (unsigned_abs pivot * u + unsigned_abs factor * v) }
+{
+    let left = pivot.unsigned_abs().checked_mul(u)?;
+    let right = factor.unsigned_abs().checked_mul(v)?;
+    left.checked_add(right)
+}
+
 // Whether `pivot * x - factor * y` fits, for x of at most `u` and y of at most `v`.
 fn step_fits(pivot: i128, u: u128, factor: i128, v: u128) -> bool
     ensures { IsTrue result ↔ (unsigned_abs pivot * u + unsigned_abs factor * v < 2 ^ 127) }
 {
-    let Some(left) = pivot.unsigned_abs().checked_mul(u) else {
-        return false;
-    };
-    let Some(right) = factor.unsigned_abs().checked_mul(v) else {
-        return false;
-    };
-    match left.checked_add(right) {
+    match products_sum(pivot, u, factor, v) {
         Some(all) => all < 1 << 127,
         None => false,
     }
@@ -118,13 +121,7 @@ fn take_off_unchecked(entries: &mut [i128], pivot: i128, factor: i128, by: &[i12
 fn products_short(pivot: i128, u: u128, factor: i128, v: u128) -> bool
     ensures { IsTrue result → (unsigned_abs pivot * u + unsigned_abs factor * v < 2 ^ 62) }
 {
-    let Some(left) = pivot.unsigned_abs().checked_mul(u) else {
-        return false;
-    };
-    let Some(right) = factor.unsigned_abs().checked_mul(v) else {
-        return false;
-    };
-    match left.checked_add(right) {
+    match products_sum(pivot, u, factor, v) {
         Some(all) => all < 1 << 62,
         None => false,
     }
