@@ -134,7 +134,15 @@ fn carried_turn<L: Ledger>(
         return plain_turn(alloc, problem, branch, left, steps);
     };
     let normal = sought.normal;
-    let answer = put_ended(alloc, problem, branch, &reached, normal, &sought.front, left);
+    let answer = put_ended(
+        alloc,
+        problem,
+        branch,
+        &reached,
+        normal,
+        &sought.front,
+        left,
+    );
     *last = Some(reached);
     answer
 }
