@@ -59,3 +59,12 @@ least_by_points cell pairs j c signs a b e ea eb rises inside new =
     let S : ℕ × ℕ → Sign → Sign → Type 0 = λ x a b. ((a ≡ Plus → x.0 < c) × (b ≡ Plus → x.1 < c)) ↔ IsLeast cell j c signs in
     let x : slice_index_or pairs j (0, 0) ≡ pair_at cell j = ap (λ (l : Cell). slice_index_or l j (0, 0)) e ∙ pair_is cell j in
     subst (λ y. S y a b) (sym x) (subst (λ i. S (pair_at cell j) i b) (sym ea) (subst (λ i. S (pair_at cell j) signs.0 i) (sym eb) (least_where cell j c signs rises inside new)))
+
+-- whether the cell is the least decides for all successors at once
+pub parent_by_least : (p : Problem) (cell tau : Cell) (j c : ℕ) (signs : Sign × Sign) (t : Time) (T : Type 0) → IsWall p cell j c signs t → T ↔ IsLeast cell j c signs
+    → (IsSuccessor cell j c signs tau × T) ↔ IsParent p cell tau
+parent_by_least p cell tau j c signs t T w e =
+    let k = parent_where p cell tau j c signs t w in (
+      (λ h. k.0 (h.0, e.0 h.1)),
+      (λ h. let q = k.1 h in (q.0, e.1 q.1)),
+    )

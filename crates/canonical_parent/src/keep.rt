@@ -2,6 +2,7 @@ ghost use Rattle.std.specs.Prelude.{◌≡◌, ◌↔◌, ◌<◌, ◌≤◌, �
 ghost use Rattle.cayley.specs.declared.found.Sign.{Sign};
 ghost use Rattle.cayley.specs.Times.{Time};
 ghost use Rattle.cayley.specs.Problems.{Problem};
+ghost use Rattle.cayley.specs.Cells.{Cell as Pairs};
 ghost use Rattle.cayley.specs.Parents.{IsParent};
 ghost use Rattle.flip_rule.specs.Few.{cells_of};
 ghost use Rattle.flip_rule.specs.Rules.{IsNewPoint, IsSuccessor};
@@ -21,12 +22,18 @@ fn stands_past(sign: Sign, point: u32, position: u32) -> bool
     }
 }
 
-// Whether the cell is the least of its predecessors: the new position stands past each point that
-// another predecessor lacks. No predecessor is built.
-fn is_least(cell: &Cell, support: u32, position: u32, signs: &Signs) -> bool
+/// Whether the cell is the least of the predecessors: the new position stands past each point that
+/// another predecessor lacks.
+///
+/// `support` and `position` name the new point, and count from 1. At a wall where this point alone
+/// is level the cell is then the parent of each of its [`successors`], and else of no cell that
+/// begins there. No predecessor is built, and no memory is taken.
+pub fn is_least(cell: &Cell, support: u32, position: u32, signs: &Signs) -> bool
     requires support { (1 ≤ support) × (support ≤ length cell.now) }
     requires new { IsNewPoint cell.now (support - 1) position }
-    ensures { IsTrue result ↔ IsLeast cell.now (support - 1) position signs.now }
+    ensures rule { IsTrue result ↔ IsLeast cell.now (support - 1) position signs.now }
+    ensures parent { (p : Problem) (t : Time) → IsWall p cell.now (support - 1) position signs.now t → (tau : Pairs)
+        → (IsSuccessor cell.now (support - 1) position signs.now tau × IsTrue result) ↔ IsParent p cell.now tau }
 {
     let (first, second) = cell.pairs()[support as usize - 1];
     stands_past(signs.a(), first, position) && stands_past(signs.b(), second, position)

@@ -3,7 +3,7 @@
 
 mod keep;
 
-pub use keep::keeps;
+pub use keep::{is_least, keeps};
 
 #[cfg(test)]
 mod tests;

@@ -15,6 +15,7 @@ mod RoomAround
 mod LeadingLines
 mod NarrowPoints
 mod FrontEnds
+mod Drifts
 mod CellLines
 mod PassingLines
 mod RestingLines

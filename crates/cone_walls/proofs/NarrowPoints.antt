@@ -15,17 +15,17 @@ use Rattle.cone_walls.specs.NarrowLines.{IsNearPoint, IsNarrowLine}
 use Rattle.cone_walls.proofs.ProblemPoints.{near_point}
 use Rattle.cone_walls.proofs.RoomAround.{within_each, high_point, point_within, narrow_at, fast_point, fast_between, end_below}
 
-narrow_den : (p : Problem) (m : MovingNormal) → IsNarrowOf p m → IsNarrow m.den
+pub narrow_den : (p : Problem) (m : MovingNormal) → IsNarrowOf p m → IsNarrow m.den
 narrow_den p m (w, n, wp, wq, reach, k) = let d = k.0 in omega (arith, d)
 
 narrow_p : (p : Problem) (m : MovingNormal) → IsNarrowOf p m → Each m.p IsNarrow
 narrow_p p m (w, n, wp, wq, reach, k) = within_each w m.p k.1 wp
 
-narrow_q : (p : Problem) (m : MovingNormal) → IsNarrowOf p m → Each m.q IsNarrow
+pub narrow_q : (p : Problem) (m : MovingNormal) → IsNarrowOf p m → Each m.q IsNarrow
 narrow_q p m (w, n, wp, wq, reach, k) = within_each w m.q k.1 wq
 
 module _ (p : Problem) (valid : IsValidProblem p) (m : MovingNormal) (p_long : length m.p ≡ p.dimension) (q_long : length m.q ≡ p.dimension) (room : IsNarrowOf p m) (i : ℕ) (least : 1 ≤ i) (greatest : i ≤ p.dimension) where
-  near : (k : ℕ) → 1 ≤ k → k ≤ length (support_at p i) → (x : Point) → x ≡ with_rank 0 (point_at (support_at p i) k) → IsNearPoint m x
+  pub near : (k : ℕ) → 1 ≤ k → k ≤ length (support_at p i) → (x : Point) → x ≡ with_rank 0 (point_at (support_at p i) k) → IsNearPoint m x
   near k first last x e =
       let n = near_point p valid i k least greatest first last x e in record {
         p_long = n.0 ∙ sym p_long;
@@ -64,11 +64,12 @@ alpha_fits m a c n = whole (unsigned_abs (alpha m a c)) (end_below (2 ^ 62) (m.d
 pub beta_fits : (m : MovingNormal) (a c : Point) → IsNarrowLine m a c → FitsWhole (beta m a c)
 beta_fits m a c n = whole (unsigned_abs (beta m a c)) (end_below (2 ^ 62) (m.den *ℤ (c.speed -ℤ a.speed)) (sub c.coordinates a.coordinates) m.q n.room.1)
 
--- the product of two numbers, one of them turned
-pub cross_below : (a b : ℤ) → IsNarrow a → IsNarrow b → unsigned_abs (a *ℤ neg_ℤ b) < 2 ^ 127
-cross_below a b p q =
-    let e = unsigned_abs-mul a (neg_ℤ b) in
-    let f = abs_neg b in
+-- the product of two numbers
+pub product_below : (a b : ℤ) → IsNarrow a → IsNarrow b → unsigned_abs (a *ℤ b) < 2 ^ 127
+product_below a b p q =
+    let e = unsigned_abs-mul a b in
     let m = mul-le (unsigned_abs a) (unsigned_abs b) (2 ^ 62) (2 ^ 62) (omega (arith, p)) (omega (arith, q)) in
-    let g = ap (λ n. unsigned_abs a * n) f in
-    omega (arith, e, g, m)
+    omega (arith, e, m)
+
+pub narrow_neg : (a : ℤ) → IsNarrow a → IsNarrow (neg_ℤ a)
+narrow_neg a p = let e = abs_neg a in omega (arith, e, p)

@@ -1,7 +1,7 @@
 -- What a wall line over 64 bits needs of its normal and its two points.
-use Rattle.std.specs.Prelude.{◌≡◌, ◌^◌, length}
+use Rattle.std.specs.Prelude.{◌≡◌, ◌^◌, ◌*ℤ◌, length}
 use Rattle.int_vectors.specs.Vectors.{Each}
-use Rattle.int_vectors.specs.Bounds.{IsNarrow}
+use Rattle.int_vectors.specs.Bounds.{IsNarrow, Room}
 use Rattle.cayley.specs.Problems.{Point}
 use Rattle.cayley.specs.Valid.{IsCornerCoordinate, IsHeight}
 use Rattle.inner_normal.specs.declared.moving.MovingNormal.{MovingNormal}
@@ -23,3 +23,10 @@ pub record IsNarrowLine (m : MovingNormal) (a c : Point) : Type 0 where
   pub from : IsNearPoint m a
   pub to : IsNearPoint m c
   pub room : HasRoom (2 ^ 62) m a c
+
+-- the numbers of the normal, and each sum on the way to the drift of a point, stay below 2 ^ 62
+pub record IsNarrowDrift (m : MovingNormal) (x : Point) : Type 0 where
+  pub den : IsNarrow m.den
+  pub q_small : Each m.q IsNarrow
+  pub near : IsNearPoint m x
+  pub room : Room (2 ^ 62) (m.den *ℤ x.speed) x.coordinates m.q

@@ -13,6 +13,10 @@ alpha m a c = m.den *ℤ (c.base -ℤ a.base) +ℤ dot (sub c.coordinates a.coor
 abbrev pub beta : MovingNormal → Point → Point → ℤ
 beta m a c = m.den *ℤ (c.speed -ℤ a.speed) +ℤ dot (sub c.coordinates a.coordinates) m.q
 
+-- what a point has by itself of the growth: the line of a point against another grows by the difference
+abbrev pub drift : MovingNormal → Point → ℤ
+drift m x = m.den *ℤ x.speed +ℤ dot x.coordinates m.q
+
 -- each number on the way to the two fits
 abbrev pub FitsWall : MovingNormal → Point → Point → Type 0
 FitsWall m a c =

@@ -15,8 +15,9 @@ mod sums;
 mod walls;
 
 pub use crossing::{Fine, WallLine};
-pub use endings::{End, end_of};
+pub use endings::{End, end_of, ending_front, place_of, time_of};
 pub use fines::refine_all;
+pub use fronts::{Fall, Front};
 pub use inner_normal::MovingNormal;
 pub use lines::lines_of;
 pub use reduced_rows::{CellFault, Reduced};

@@ -11,8 +11,8 @@ ghost use Rattle.cone_walls.specs.NarrowLines.{IsNarrowLine};
 ghost use Rattle.cone_walls.specs.Numbers as numbers;
 ghost use Rattle.cone_walls.specs.Rooms.{IsNarrowOf};
 
-use crate::fronts::{Fall, Front, joined};
-use crate::slopes::{slope, start};
+use crate::fronts::{Fall, Front, join};
+use crate::slopes::{drift_of, growth, start};
 use cayley::{Cell, Point, Problem};
 use inner_normal::MovingNormal;
 
@@ -47,14 +47,14 @@ fn fallen(
     let fall = Fall {
         support: i,
         position,
-        alpha: alpha as i128,
-        beta: beta as i128,
+        alpha,
+        beta,
     };
-    let leading = joined(*front, fall);
-    *front = leading;
+    join(front, fall);
 }
 
-// The front with the line of the point at a position of support i, unless it is of the pair.
+// The front with the line of the point at a position of support i, unless it is of the pair. `drift` is
+// that of the pair's first point.
 #[inline(always)]
 fn passed(
     front: &mut Front,
@@ -63,12 +63,14 @@ fn passed(
     i: u32,
     pair: (u32, u32),
     a: &Point,
+    drift: i64,
     position: u32,
 )
     requires least { 1 ≤ i }
     requires greatest { i ≤ problem.now.dimension }
     requires pair { (1 ≤ pair.0) × (pair.0 ≤ length (support_at problem.now i)) }
     requires first { point a.now ≡ with_rank 0 (point_at (support_at problem.now i) pair.0) }
+    requires drift { drift ≡ numbers.drift normal.now (point a.now) }
     requires position { (1 ≤ position) × (position ≤ length (support_at problem.now i)) }
     requires p_long { length normal.now.p ≡ problem.now.dimension }
     requires q_long { length normal.now.q ≡ problem.now.dimension }
@@ -81,10 +83,11 @@ fn passed(
         return;
     }
     let c = problem.point(i, position);
-    let beta = slope(normal, a, c);
-    if beta >= 0 {
+    let other = drift_of(normal, c);
+    if other >= drift {
         return;
     }
+    let beta = growth(normal, a, c, drift, other);
     fallen(front, normal, i, a, position, c, beta);
 }
 
@@ -101,8 +104,9 @@ fn passed_all(front: &mut Front, problem: &Problem, normal: &MovingNormal, i: u3
     ensures front { (lines : List WallLine) → IsFront lines front.old → IsFront (lines ++ support_lines normal.now i (support_at problem.now i) pair.0 pair.1) front.new }
 {
     let a = problem.point(i, pair.0);
+    let drift = drift_of(normal, a);
     for index in 0..problem.count(i) {
-        passed(front, problem, normal, i, pair, a, index + 1);
+        passed(front, problem, normal, i, pair, a, drift, index + 1);
     }
 }
 

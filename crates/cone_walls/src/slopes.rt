@@ -1,20 +1,28 @@
 // The two numbers of a wall line one by one, in 64 bits.
-ghost use Rattle.std.specs.Prelude.{◌≡◌, ◌<◌, ◌^◌, ℤ, pos, unsigned_abs, ◌+ℤ◌, ◌-ℤ◌, ◌*ℤ◌, length};
+ghost use Rattle.std.specs.Prelude.{◌≡◌, ◌+◌, ◌<◌, ◌^◌, drop, ℤ, pos, unsigned_abs, ◌+ℤ◌, ◌-ℤ◌, ◌*ℤ◌, length};
 ghost use Rattle.int_vectors.specs.Bounds as bounds;
 ghost use Rattle.int_vectors.specs.Bounds.{IsNarrow};
 ghost use Rattle.int_vectors.specs.Vectors.{Each, sub, dot};
 ghost use Rattle.cayley.specs.Stored.{point};
 ghost use Rattle.cayley.specs.Valid.{IsCornerCoordinate};
-ghost use Rattle.cone_walls.specs.NarrowLines.{IsNarrowLine};
+ghost use Rattle.cone_walls.specs.NarrowLines.{IsNarrowDrift, IsNarrowLine};
 ghost use Rattle.cone_walls.specs.Numbers as numbers;
 
-use crate::sums::{haste, rise, scaled};
+use crate::sums::{rise, scaled};
 use cayley::Point;
 use inner_normal::MovingNormal;
 
 #[inline(always)]
 fn narrowed(x: i128) -> i64
     requires { IsNarrow x }
+    ensures { result ≡ x }
+{
+    x as i64
+}
+
+#[inline(always)]
+fn short(x: i128) -> i64
+    requires { IsCornerCoordinate x }
     ensures { result ≡ x }
 {
     x as i64
@@ -59,21 +67,58 @@ fn sum_between(start: i64, a: &[i128], c: &[i128], v: &[i128]) -> i64
     total
 }
 
-// How much the line of c against a grows in one unit of time.
+// The sum with the product at one more place.
 #[inline(always)]
-pub(crate) fn slope(normal: &MovingNormal, a: &Point, c: &Point) -> i64
-    requires { IsNarrowLine normal.now (point a.now) (point c.now) }
-    ensures { result ≡ numbers.beta normal.now (point a.now) (point c.now) }
+fn with_place(t: i64, c: &[i128], v: &[i128], i: usize) -> i64
+    requires length { length c.now ≡ length v.now }
+    requires place { i < length v.now }
+    requires c_small { Each c.now IsCornerCoordinate }
+    requires v_small { Each v.now IsNarrow }
+    requires room { bounds.Room (2 ^ 62) t (drop i c.now) (drop i v.now) }
+    ensures value { result +ℤ dot (drop (i + 1) c.now) (drop (i + 1) v.now) ≡ t +ℤ dot (drop i c.now) (drop i v.now) }
+    ensures room { bounds.Room (2 ^ 62) result (drop (i + 1) c.now) (drop (i + 1) v.now) }
+{
+    let d = short(c[i]);
+    let x = narrowed(v[i]);
+    plus_product(t, d, x)
+}
+
+// The start plus the sum of the products of the coordinates of a point and v.
+#[inline(always)]
+fn sum_along(start: i64, c: &[i128], v: &[i128]) -> i64
+    requires length { length c.now ≡ length v.now }
+    requires c_small { Each c.now IsCornerCoordinate }
+    requires v_small { Each v.now IsNarrow }
+    requires room { bounds.Room (2 ^ 62) start c.now v.now }
+    ensures { result ≡ start +ℤ dot c.now v.now }
+{
+    let mut total = start;
+    for i in 0..v.len() {
+        total = with_place(total, c, v, i);
+    }
+    total
+}
+
+// How much den times the height of a point over the normal grows in one unit of time.
+#[inline(always)]
+pub(crate) fn drift_of(normal: &MovingNormal, x: &Point) -> i64
+    requires { IsNarrowDrift normal.now (point x.now) }
+    ensures { result ≡ numbers.drift normal.now (point x.now) }
 {
     let den = narrowed(normal.den);
-    let hurry = haste(a.speed, c.speed);
-    let start = scaled(den, hurry);
-    sum_between(
-        start,
-        a.coords.as_slice(),
-        c.coords.as_slice(),
-        normal.q.as_slice(),
-    )
+    let first = scaled(den, x.speed);
+    sum_along(first, x.coords.as_slice(), normal.q.as_slice())
+}
+
+// How much the line of c against a grows in one unit of time, by the drifts of a and c.
+#[inline(always)]
+pub(crate) fn growth(normal: &MovingNormal, a: &Point, c: &Point, from: i64, to: i64) -> i64
+    requires narrow { IsNarrowLine normal.now (point a.now) (point c.now) }
+    requires from { from ≡ numbers.drift normal.now (point a.now) }
+    requires to { to ≡ numbers.drift normal.now (point c.now) }
+    ensures { result ≡ numbers.beta normal.now (point a.now) (point c.now) }
+{
+    to - from
 }
 
 // The value of the line of c against a at the time 0.

@@ -17,7 +17,11 @@ use Rattle.searcher.specs.declared.branches.Branch.{Branch}
 use Rattle.searcher.specs.declared.expansions.HaltCause.TheVariants as cause
 use Rattle.cone_walls.specs.declared.endings.End.{End}
 use Rattle.cone_walls.specs.declared.endings.End.TheVariants.{Never, At, Tied}
-use Rattle.cone_walls.specs.Ends.{IsEnd, IsEndOf, place_at}
+use Rattle.cone_walls.specs.declared.fronts.Fall.{Fall}
+use Rattle.cone_walls.specs.declared.fronts.Front.{Front}
+use Rattle.cone_walls.specs.declared.fronts.Front.TheVariants.{Empty, One, Two}
+use Rattle.cone_walls.specs.Fronts.{place_by, IsTimeOf}
+use Rattle.cone_walls.specs.Ends.{IsEnd, IsEndOf, IsFrontOf, place_at}
 use Rattle.searcher.specs.Ends.{IsTiedAtBegin}
 use Rattle.searcher.specs.Expansions.{IsOfKind, inner, IsSettled, IsTied, IsCause}
 use Rattle.searcher.proofs.EndCauses.{exit_cause, inner_kind, never_ends, wall_point, wall_end}
@@ -30,6 +34,17 @@ IsAtPoint p cell place = (1 ≤ place.support) × (place.support ≤ p.dimension
 abbrev pub IsAtWall : Problem → Cell → lex.Value → Place → Type 0
 IsAtWall p cell u place = (t : Time) × (t.entries ≡ entries u.parts) × (t.over ≡ u.den) × EndsAt p cell t
     × ((v : Normal) × IsNormal p cell t v × IsOnlyLevel p cell t v (place.support - 1) place.position)
+
+-- the end that a front tells
+module _ (p : Problem) (cell : Cell) (m : MovingNormal) (front : Front) where
+  pub ends_never : front ≡ Empty → IsFrontOf p cell m front → IsEndOf p cell m Never
+  ends_never e h = subst (IsFrontOf p cell m) e h Never refl
+
+  pub ends_one : (f : Fall) → front ≡ One f → IsFrontOf p cell m front → (u : lex.Value) → IsTimeOf f u → IsEndOf p cell m (At u (place_by f))
+  ends_one f e h u t = subst (IsFrontOf p cell m) e h (At u (place_by f)) (u, t, refl)
+
+  pub ends_two : (f g : Fall) → front ≡ Two f g → IsFrontOf p cell m front → (u : lex.Value) → IsTimeOf f u → IsEndOf p cell m (Tied u (place_by f) (place_by g))
+  ends_two f g e h u t = subst (IsFrontOf p cell m) e h (Tied u (place_by f) (place_by g)) (u, t, refl)
 
 module _ (p : Problem) (b : Branch) (well : IsProblem p) (s : IsSettled p b) (m : MovingNormal) where
   is_end : (end : End) (h : IsEndOf p b.cell m end) → IsEnd h.0 end

@@ -1,9 +1,11 @@
-ghost use Rattle.std.specs.Prelude.{◌≡◌, ◌≤◌, ◌-◌, ◌+◌, IfOk, IfSome, MatchOption, MatchResult};
+ghost use Rattle.std.specs.Prelude.{◌≡◌, ◌≤◌, ◌-◌, ◌+◌, Some, IfOk, IfSome, MatchOption, MatchResult};
+ghost use Rattle.lex_height.specs.Values as lex;
 ghost use Rattle.cayley.specs.Cells.{IsOf};
 ghost use Rattle.cayley.specs.Dependencies.{IsFurtherAt};
 ghost use Rattle.cayley.specs.Problems.{IsStill, version1};
 ghost use Rattle.inner_normal.specs.MovingNormals.{IsMovingNormal};
-ghost use Rattle.cone_walls.specs.Ends.{IsEndOf};
+ghost use Rattle.cone_walls.specs.Ends.{IsFrontOf};
+ghost use Rattle.cone_walls.specs.Fronts.{place_by, IsFall, IsTimeOf, AreFalls};
 ghost use Rattle.searcher.specs.Ends.{IsTiedAtBegin};
 ghost use Rattle.searcher.specs.Expansions.{IsCause, IsExpansion, IsSettled};
 ghost use Rattle.searcher.specs.Kept.{AreSignsAt};
@@ -16,21 +18,21 @@ use crate::expansions::{Expansion, HaltCause};
 use crate::lasts::Last;
 use crate::targets::endless;
 use cayley::{Cell, Problem, TieProof};
-use cone_walls::{End, Steps, end_of};
+use cone_walls::{Fall, Front, Steps, ending_front, place_of, time_of};
 use flip_rule::Signs;
 use inner_normal::{Eliminated, MovingNormal};
 use std::alloc::Global;
 use std::sync::ledger::Ledger;
 use wide_int::OutOfMemory;
 
-// The normal of a cell, and where the cell ends.
+// The normal of a cell, and the lines that end it.
 #[derive(Drop)]
 pub(crate) struct Sought {
     pub(crate) normal: MovingNormal,
-    pub(crate) end: End,
+    pub(crate) front: Front,
 }
 
-// The normal and the end of the last cell, unless a number might not fit.
+// The normal of the last cell and the lines that end it, unless a number might not fit.
 pub(crate) fn seek<L: Ledger>(
     alloc: Global,
     problem: &Problem,
@@ -41,13 +43,13 @@ pub(crate) fn seek<L: Ledger>(
     requires last { IsLast problem.now last.now }
     requires first { problem.now.version ≡ version1 }
     ensures step { MatchOption result (steps.new ≡ steps.old) (λ _. steps.new ≡ steps.old + 1) }
-    ensures found { IfSome result (λ s. IsMovingNormal problem.now last.now.cell s.normal × IsEndOf problem.now last.now.cell s.normal s.end) }
+    ensures found { IfSome result (λ s. IsMovingNormal problem.now last.now.cell s.normal × AreFalls s.front × IsFrontOf problem.now last.now.cell s.normal s.front) }
 {
     let Ok(normal) = last.carried.normal(alloc, problem, &last.cell) else {
         return None;
     };
-    let end = end_of(alloc, problem, &last.cell, &normal, steps)?;
-    Some(Sought { normal, end })
+    let front = ending_front(problem, &last.cell, &normal, steps)?;
+    Some(Sought { normal, front })
 }
 
 // The signs at the pair of a circuit by an elimination. All numbers fit, so that it is refused for
@@ -98,14 +100,28 @@ pub(crate) fn signs_by(
     }
 }
 
-// What a true branch is expanded to, by the end of its cell.
+// The tie of the points of two lines that are zero at one time.
+pub(crate) fn tie_between(cell: &Cell, fall: &Fall, other: &Fall) -> TieProof
+    requires { IsFall fall.now }
+    ensures { (u : lex.Value) × IsTimeOf fall.now u
+        × (result ≡ record { cell = cell.now; time = u; first = place_by fall.now; second = Some (place_by other.now) }) }
+{
+    TieProof {
+        cell: cell.copy(),
+        time: time_of(fall),
+        first: place_of(fall),
+        second: Some(place_of(other)),
+    }
+}
+
+// What a true branch is expanded to, by the lines that end its cell.
 pub(crate) fn ended_by(
     alloc: Global,
     problem: &Problem,
     branch: &Branch,
     last: &Last,
     normal: MovingNormal,
-    end: &End,
+    front: &Front,
 ) -> Result<Expansion, HaltCause>
     requires still { IsStill problem.now }
     requires settled { IsSettled problem.now branch.now }
@@ -113,36 +129,29 @@ pub(crate) fn ended_by(
     requires last { IsLast problem.now last.now }
     requires cell { last.now.cell ≡ branch.now.cell }
     requires normal { IsMovingNormal problem.now branch.now.cell normal }
-    requires end { IsEndOf problem.now branch.now.cell normal end.now }
+    requires falls { AreFalls front.now }
+    requires end { IsFrontOf problem.now branch.now.cell normal front.now }
     ensures { MatchResult result (IsExpansion problem.now branch.now) (IsCause problem.now branch.now) }
 {
     // A problem is valid by its type, as its readers tell.
     let _dim = problem.dim();
-    match *end {
-        End::Never => Ok(endless(problem, branch, normal)),
-        End::At { time, place } => {
-            let Ok(signs) = signs_by(alloc, problem, last, place.support, place.position) else {
+    match front {
+        Front::Empty => Ok(endless(problem, branch, normal)),
+        Front::One(fall) => {
+            let time = time_of(fall);
+            let Ok(signs) = signs_by(alloc, problem, last, fall.support, fall.position) else {
                 return Err(HaltCause::OutOfMemory);
             };
             let children = kept_by(
                 problem,
                 &last.cell,
                 signs,
-                place.support,
-                place.position,
+                fall.support,
+                fall.position,
                 time,
             );
             Ok(Expansion::Inner { children })
         }
-        End::Tied {
-            time,
-            first,
-            second,
-        } => Err(HaltCause::Tie(TieProof {
-            cell: branch.cell().copy(),
-            time,
-            first,
-            second: Some(second),
-        })),
+        Front::Two(fall, other) => Err(HaltCause::Tie(tie_between(branch.cell(), fall, other))),
     }
 }

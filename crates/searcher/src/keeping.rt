@@ -1,57 +1,36 @@
 //! Children are put behind the branches that are left, one by one.
-ghost use Rattle.std.specs.Prelude.{◌≡◌, ◌↔◌, ◌≤◌, ◌-◌, ◌+◌, ◌++◌, ◌∷◌, [], IsTrue, length, vec_len, vec_capacity};
+ghost use Rattle.std.specs.Prelude.{◌≡◌, ◌≤◌, ◌-◌, ◌+◌, ◌++◌, ◌∷◌, [], length, vec_len, vec_capacity};
 ghost use Rattle.lex_height.specs.Entries.{entries};
 ghost use Rattle.cayley.specs.declared.found.Begin.TheVariants.{At};
 ghost use Rattle.cayley.specs.Times.{Time};
 ghost use Rattle.cayley.specs.Problems as problems;
-ghost use Rattle.cayley.specs.Cells.{IsOf, IsListOf};
+ghost use Rattle.cayley.specs.Cells.{IsOf};
 ghost use Rattle.cayley.specs.Normals.{Normal, IsNormal};
 ghost use Rattle.cayley.specs.Lives.{EndsAt};
-ghost use Rattle.cayley.specs.Parents.{Precedes, IsParent};
 ghost use Rattle.cayley.specs.Dependencies.{IsFurtherAt};
 ghost use Rattle.cayley.specs.Flips.{IsOnlyLevel};
-ghost use Rattle.flip_rule.specs.Few.{cells_of};
 ghost use Rattle.flip_rule.specs.Rules.{IsNewPoint};
 ghost use Rattle.searcher.specs.Kept.{AreSignsAt, EndsAtWall};
 ghost use Rattle.searcher.specs.Turns.{PutsChildren};
 
 use crate::branches::Branch;
-use canonical_parent::keeps;
+use canonical_parent::is_least;
 use cayley::{Begin, Cell, Problem};
 use flip_rule::{Few, Signs, successors};
 use lex_height::Lex;
 
-// Puts the branch of a child that begins at this time behind the others, where the cell is its parent.
-fn put_kept(
-    cell: &Cell,
-    child: Cell,
-    support: u32,
-    position: u32,
-    signs: &Signs,
-    time: &Lex,
-    left: &mut Vec<Branch>,
-) -> bool
-    requires support { (1 ≤ support) × (support ≤ length cell.now) }
-    requires new { IsNewPoint cell.now (support - 1) position }
+// Puts the branch of a child that begins at this time behind the others.
+fn put_child(child: Cell, time: &Lex, left: &mut Vec<Branch>)
     requires room { vec_len left.old + 1 ≤ vec_capacity left.old }
-    ensures yes { IsTrue result → left.new.items ≡ left.old.items ++ (record { cell = child; begin = At time.now }) ∷ [] }
-    ensures no { ¬ (IsTrue result) → left.new.items ≡ left.old.items }
-    ensures room { (vec_len left.new ≤ vec_len left.old + 1) × (vec_capacity left.new ≡ vec_capacity left.old) }
-    ensures parent { (p : problems.Problem) → EndsAtWall p cell.now (support - 1) position signs.now time.now
-        → IsTrue result ↔ IsParent p cell.now child }
+    ensures put { left.new.items ≡ left.old.items ++ (record { cell = child; begin = At time.now }) ∷ [] }
+    ensures room { (vec_len left.new ≡ vec_len left.old + 1) × (vec_capacity left.new ≡ vec_capacity left.old) }
 {
-    if keeps(cell, &child, support, position, signs) {
-        left.push_reserved(Branch::new(child, Begin::At(time.copy())));
-        true
-    } else {
-        false
-    }
+    left.push_reserved(Branch::new(child, Begin::At(time.copy())));
 }
 
-// Puts the children among the cells that the cell precedes where it ends.
+// Puts the children at the wall, which are the cells that the cell precedes where it ends, or none.
 fn put_among(
     cell: &Cell,
-    cells: Few,
     support: u32,
     position: u32,
     signs: &Signs,
@@ -61,16 +40,16 @@ fn put_among(
     requires support { (1 ≤ support) × (support ≤ length cell.now) }
     requires new { IsNewPoint cell.now (support - 1) position }
     requires room { vec_len left.old + 2 ≤ vec_capacity left.old }
-    ensures { (p : problems.Problem) (w : EndsAtWall p cell.now (support - 1) position signs.now time.now)
-        → IsListOf (λ tau. Precedes p cell.now tau w.t) (cells_of cells) → PutsChildren p cell.now left.old.items left.new.items }
+    ensures { (p : problems.Problem) → EndsAtWall p cell.now (support - 1) position signs.now time.now → PutsChildren p cell.now left.old.items left.new.items }
 {
-    match cells {
-        Few::One(child) => {
-            let _only = put_kept(cell, child, support, position, signs, time, left);
-        }
+    if !is_least(cell, support, position, signs) {
+        return;
+    }
+    match successors(cell, support, position, signs) {
+        Few::One(child) => put_child(child, time, left),
         Few::Two(least, other) => {
-            let _first = put_kept(cell, least, support, position, signs, time, left);
-            let _second = put_kept(cell, other, support, position, signs, time, left);
+            put_child(least, time, left);
+            put_child(other, time, left);
         }
     }
 }
@@ -96,6 +75,5 @@ pub(crate) fn put_children_by(
 {
     // A problem is valid by its type, as its readers tell.
     let _dim = problem.dim();
-    let cells = successors(cell, support, position, signs);
-    put_among(cell, cells, support, position, signs, time, left);
+    put_among(cell, support, position, signs, time, left);
 }

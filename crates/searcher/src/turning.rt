@@ -5,7 +5,8 @@ ghost use Rattle.cayley.specs.Cells.{IsOf};
 ghost use Rattle.cayley.specs.Problems.{IsStill};
 ghost use Rattle.cayley.specs.Ties.{IsTieFree};
 ghost use Rattle.inner_normal.specs.MovingNormals.{IsMovingNormal};
-ghost use Rattle.cone_walls.specs.Ends.{IsEndOf};
+ghost use Rattle.cone_walls.specs.Ends.{IsFrontOf};
+ghost use Rattle.cone_walls.specs.Fronts.{AreFalls};
 ghost use Rattle.searcher.specs.Ends.{IsTiedAtBegin};
 ghost use Rattle.searcher.specs.Expansions.{IsCause, IsSettled, ShowsTieAtEnd, HasNoTie};
 ghost use Rattle.searcher.specs.Searches.{opened, found_in};
@@ -13,7 +14,7 @@ ghost use Rattle.searcher.specs.Walks.{IsCarried, IsLast, IsMade, IsWalk};
 ghost use Rattle.searcher.specs.Turns.{IsTurned, list_of};
 
 use crate::branches::Branch;
-use crate::endings::{seek, signs_by};
+use crate::endings::{seek, signs_by, tie_between};
 use crate::expansions::{Expansion, HaltCause};
 use crate::keeping::put_children_by;
 use crate::lasts::{Last, reach};
@@ -21,8 +22,8 @@ use crate::searching::put_children;
 use crate::settling::expanded;
 use crate::targets::mixed;
 use crate::walks::{Walk, lesser};
-use cayley::{FoundCell, Problem, TieProof};
-use cone_walls::{End, Steps};
+use cayley::{FoundCell, Problem};
+use cone_walls::{Front, Steps, time_of};
 use inner_normal::MovingNormal;
 use std::alloc::Global;
 use std::mem;
@@ -68,14 +69,14 @@ fn plain_turn<L: Ledger>(
     }
 }
 
-// Puts what a true branch opens, by the end of its cell.
+// Puts what a true branch opens, by the lines that end its cell.
 fn put_ended(
     alloc: Global,
     problem: &Problem,
     branch: &Branch,
     last: &Last,
     normal: MovingNormal,
-    end: &End,
+    front: &Front,
     left: &mut Vec<Branch>,
 ) -> Result<Option<FoundCell>, HaltCause>
     requires still { IsStill problem.now }
@@ -84,33 +85,26 @@ fn put_ended(
     requires last { IsLast problem.now last.now }
     requires cell { last.now.cell ≡ branch.now.cell }
     requires normal { IsMovingNormal problem.now branch.now.cell normal }
-    requires end { IsEndOf problem.now branch.now.cell normal end.now }
+    requires falls { AreFalls front.now }
+    requires end { IsFrontOf problem.now branch.now.cell normal front.now }
     requires room { vec_len left.old + 2 ≤ vec_capacity left.old }
     ensures answer { MatchResult result (IsTurned problem.now branch.now left.old.items left.new.items) (IsCause problem.now branch.now) }
     ensures same { IfErr result (λ _. left.new ≡ left.old) }
 {
     // A problem is valid by its type, as its readers tell.
     let _dim = problem.dim();
-    match end {
-        End::Never => Ok(mixed(problem, branch, normal)),
-        End::At { time, place } => {
-            let Ok(signs) = signs_by(alloc, problem, last, place.support, place.position) else {
+    match front {
+        Front::Empty => Ok(mixed(problem, branch, normal)),
+        Front::One(fall) => {
+            let time = time_of(fall);
+            let (support, position) = (fall.support, fall.position);
+            let Ok(signs) = signs_by(alloc, problem, last, support, position) else {
                 return Err(HaltCause::OutOfMemory);
             };
-            let (support, position) = (place.support, place.position);
-            put_children_by(problem, &last.cell, &signs, support, position, time, left);
+            put_children_by(problem, &last.cell, &signs, support, position, &time, left);
             Ok(None)
         }
-        End::Tied {
-            time,
-            first,
-            second,
-        } => Err(HaltCause::Tie(TieProof {
-            cell: branch.cell().copy(),
-            time: *time,
-            first: *first,
-            second: Some(*second),
-        })),
+        Front::Two(fall, other) => Err(HaltCause::Tie(tie_between(branch.cell(), fall, other))),
     }
 }
 
@@ -140,7 +134,15 @@ fn carried_turn<L: Ledger>(
         return plain_turn(alloc, problem, branch, left, steps);
     };
     let normal = sought.normal;
-    let answer = put_ended(alloc, problem, branch, &reached, normal, &sought.end, left);
+    let answer = put_ended(
+        alloc,
+        problem,
+        branch,
+        &reached,
+        normal,
+        &sought.front,
+        left,
+    );
     *last = Some(reached);
     answer
 }

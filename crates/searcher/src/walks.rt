@@ -65,7 +65,7 @@ fn carried_on<L: Ledger>(
         return expand(alloc, problem, branch, steps);
     };
     let normal = sought.normal;
-    let answer = ended_by(alloc, problem, &branch, &reached, normal, &sought.end);
+    let answer = ended_by(alloc, problem, &branch, &reached, normal, &sought.front);
     *last = Some(reached);
     match answer {
         Ok(expansion) => Ok(expansion),

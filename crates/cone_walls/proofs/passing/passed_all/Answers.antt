@@ -3,8 +3,15 @@ use Rattle.cayley.specs.Valid.{support_at}
 use Rattle.crossing.specs.declared.line.WallLine.{WallLine}
 use Rattle.cone_walls.specs.Fronts.{IsFront}
 use Rattle.cone_walls.specs.Listed.{one_line, support_lines}
+use Rattle.cayley.specs.Stored.{point}
+use Rattle.cone_walls.proofs.Drifts.{narrow_drift}
 use Rattle.cone_walls.proofs.Pushing.{more_lines, last_line}
 use Rattle.cone_walls.proofs.passing.passed_all.Goals as goal
+
+pub drift_of-drift-requires : goal.drift_of-drift-requires
+drift_of-drift-requires c =
+    let r = c.requires in
+    narrow_drift c.args.problem.now c.point-a.ensures.valid c.args.normal.now r.p_long r.q_long r.room c.args.i r.least r.greatest c.args.pair.0 r.pair (point c.point-a.result.now) c.point-a.ensures.value
 
 pub loop-index-init : goal.loop-index-init
 loop-index-init c = record {

@@ -1,5 +1,5 @@
 use Rattle.std.proofs.Common.{◌∙◌, subst}
-use Rattle.cone_walls.specs.Ends.{IsEndOf}
+use Rattle.cone_walls.specs.Ends.{IsFrontOf}
 use Rattle.searcher.proofs.turning.carried_turn.Goals as goal
 
 pub put_ended-answer-requires-clause-settled : goal.put_ended-answer-requires-clause-settled
@@ -8,4 +8,4 @@ put_ended-answer-requires-clause-settled g c = (c.requires.made.0, c.requires.ca
 pub put_ended-answer-requires-clause-end : goal.put_ended-answer-requires-clause-end
 put_ended-answer-requires-clause-end g c =
     let s = c.in-Some-seek.sought in
-    subst (λ z. IsEndOf c.args.problem.now z s.normal s.end) (c.in-Some.ensures.1 ∙ c.cell.ensures) c.in-Some-seek.ensures.found.1
+    subst (λ z. IsFrontOf c.args.problem.now z s.normal s.front) (c.in-Some.ensures.1 ∙ c.cell.ensures) c.in-Some-seek.ensures.found.2

@@ -1,5 +1,5 @@
 use Rattle.std.proofs.Common.{◌∙◌, subst}
-use Rattle.cone_walls.specs.Ends.{IsEndOf}
+use Rattle.cone_walls.specs.Ends.{IsFrontOf}
 use Rattle.searcher.proofs.walks.carried_on.Goals as goal
 
 pub ended_by-answer-requires-clause-settled : goal.ended_by-answer-requires-clause-settled
@@ -8,4 +8,4 @@ ended_by-answer-requires-clause-settled g c = (c.requires.made.0, c.requires.car
 pub ended_by-answer-requires-clause-end : goal.ended_by-answer-requires-clause-end
 ended_by-answer-requires-clause-end g c =
     let s = c.in-Some-seek.sought in
-    subst (λ z. IsEndOf c.args.problem.now z s.normal s.end) (c.in-Some.ensures.1 ∙ c.cell.ensures) c.in-Some-seek.ensures.found.1
+    subst (λ z. IsFrontOf c.args.problem.now z s.normal s.front) (c.in-Some.ensures.1 ∙ c.cell.ensures) c.in-Some-seek.ensures.found.2
