@@ -4,7 +4,7 @@ pub mod BoundSums
 pub mod Differences
 pub mod DividingEach
 pub mod DotSteps
-mod Eliminated
+pub mod Eliminated
 pub mod EntryDivisors
 mod Fitting
 pub mod InPlace
