@@ -8,7 +8,7 @@ use Rattle.int_vectors.proofs.Weighing.{weigh-zero}
 use Rattle.int_vectors.proofs.Entries.{entries, length-entries, entries_each, zero_below}
 use Rattle.cayley.specs.Cells.{Cell, EachPair, IsOf, IsIndependent}
 use Rattle.cayley.specs.Problems.{Point, Problem, IsProblem, HasSamePoints, point_at}
-use Rattle.cayley.proofs.OneCell.Unperturbed.{unranked, point_unranked, same_points, same_dimension, same_well, same_of}
+use Rattle.cayley.proofs.Ranking.Unperturbed.{unranked, point_unranked, same_points, same_dimension, same_well, same_of}
 use Rattle.inner_normal.specs.declared.moving.MovingNormal.{MovingNormal}
 use Rattle.inner_normal.specs.MovingNormals.{IsMovingNormal}
 use Rattle.cayley.proofs.Algebra.Dependence.{dependent}

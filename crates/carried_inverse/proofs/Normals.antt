@@ -13,7 +13,7 @@ use Rattle.cayley.specs.Problems.{Point, Problem, IsProblem, point_at}
 use Rattle.cayley.proofs.OneCell.CellNormals.{long-edges, length-edges}
 use Rattle.cayley.proofs.Algebra.Kernel.{dot_comm}
 use Rattle.cayley.specs.Rows.{edges}
-use Rattle.cayley.proofs.Flipping.FlipNeighbours.{both_pairs}
+use Rattle.cayley.proofs.Lists.Pairs.{pairs_together}
 use Rattle.inner_normal.specs.Inverses.{Inverse}
 use Rattle.inner_normal.proofs.ScaledSums.{for_products}
 use Rattle.inner_normal.specs.declared.moving.MovingNormal.{MovingNormal}
@@ -135,7 +135,7 @@ normal_by_columns p cell well of ind a m count positive inverts d sp sq =
     let r = rows_shape p cell well of in
     let f = falls_count p.supports cell _ of in
     moving_of p cell well of ind m (subst (λ z. pos 0 <ℤ z) (sym d) positive) sp.0 sq.0
-    (both_pairs _ _ p.supports cell
+    (pairs_together p.supports cell _ _
     (base_levels p.supports cell _ m.p m.den of (λ j lt. row_sum p.dimension (edges p.supports cell) a (base_falls p.supports cell) m.p j (let k = well.supports in omega (arith, lt, k)) r.0 r.1 (f.0 ∙ well.supports) count inverts sp ∙ ap (λ z. z *ℤ at (base_falls p.supports cell) j) (sym d)))
     (speed_levels p.supports cell _ m.q m.den of (λ j lt. row_sum p.dimension (edges p.supports cell) a (speed_falls p.supports cell) m.q j (let k = well.supports in omega (arith, lt, k)) r.0 r.1 (f.1 ∙ well.supports) count inverts sq ∙ ap (λ z. z *ℤ at (speed_falls p.supports cell) j) (sym d))))
 

@@ -1,6 +1,5 @@
 -- what stands before and after a wall
-pub mod Spots
-pub mod Neighbours
+pub mod OneSupport
 mod PairOrder
 pub mod Exchange
 pub mod Places
@@ -13,3 +12,4 @@ mod FlipParents
 pub mod FlipChildren
 mod FlipOrder
 pub mod FlipSigns
+pub mod CellNumbers

@@ -10,8 +10,10 @@ pub mod Walls
 pub mod LifeLaws
 pub mod Targets
 pub mod ShownTies
-mod StillGaps
+pub mod StillGaps
 pub mod Still
 pub mod Spots
 pub mod NamedTies
 pub mod LongerTimes
+pub mod Soon
+pub mod Mirror

@@ -1,5 +1,4 @@
 -- lists, and properties of each pair, by places
-pub mod Each
 pub mod Pairs
 pub mod Supports
 pub mod Reaching

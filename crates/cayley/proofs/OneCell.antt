@@ -1,20 +1,16 @@
 -- one cell: its rows, normals, dependencies and lines
 pub mod CellOrder
-pub mod PlainProblems
-pub mod MovedProblems
 pub mod EdgeRows
 pub mod CellNormals
 pub mod CellLines
-pub mod CellNumbers
 pub mod OneDependency
 pub mod OneNormal
 pub mod Gaps
 pub mod LowestTerms
 pub mod MovingNormals
 pub mod MovingWalls
-pub mod Unperturbed
 pub mod CellRows
 pub mod RestingGaps
 pub mod PutPairs
 pub mod RaisedRanks
-pub mod FilePointRanks
+pub mod Neighbours

@@ -2,8 +2,7 @@
 pub mod Lexicographic
 pub mod Proportion
 pub mod Lines
-pub mod Soon
-pub mod Mirror
 pub mod Times
 pub mod Lined
+pub mod Zeros
 pub mod Spans

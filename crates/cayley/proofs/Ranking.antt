@@ -5,3 +5,7 @@ mod RankedFaults
 pub mod Numbering
 pub mod FirstRanks
 pub mod StoredProblems
+pub mod PlainProblems
+pub mod MovedProblems
+pub mod Unperturbed
+pub mod FilePointRanks

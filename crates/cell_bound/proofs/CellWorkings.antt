@@ -25,6 +25,7 @@ use Rattle.cell_bound.specs.OwnLines.{FitOwnLines}
 use Rattle.cell_bound.proofs.RowRanges.{rows_within}
 use Rattle.cell_bound.proofs.Circuits.{circuit_fits}
 use Rattle.cayley.specs.Dependencies.{pair_at, IsFurtherAt, nth_support}
+use Rattle.cayley.proofs.Lists.Pairs.{pairs_map}
 
 product_some : (fs hs : List ℕ) (supports : List (List Point)) → HaveRanges fs hs supports → 1 ≤ product fs
 product_some [] hs supports w = omega arith
@@ -47,13 +48,6 @@ own_room (suc q) f h (suc p) s n t a b e l =
     let third = mul-le f t n t (omega (arith, f_below, e)) (omega arith) in
     let fourth = ap (λ m. m * h) e in
     omega (arith, first, second, third, fourth)
-
--- from each pair to each pair
-each_pair : (P Q : List Point → ℕ → ℕ → Type 0) (supports : List (List Point)) (cell : Cell) → ((s : List Point) (a b : ℕ) → P s a b → Q s a b) → EachPair supports cell P → EachPair supports cell Q
-each_pair P Q [] [] f h = tt
-each_pair P Q [] (x ∷ cell) f h = absurd h
-each_pair P Q (s ∷ supports) [] f h = absurd h
-each_pair P Q (s ∷ supports) (x ∷ cell) f h = (f s x.0 x.1 h.0, each_pair P Q supports cell f h.1)
 
 -- the room of a further point, from that of all
 point_room : (m t : ℕ) (supports : List (List Point)) (cell : Cell) (j c : ℕ) → EachPair supports cell (λ s a b. (c : ℕ) → IsFurther s a b c → PointBelow m t (point_at s a) (point_at s c))
@@ -102,7 +96,7 @@ module _ (p : Problem) (cell : Cell) (front further : ℕ) (well : IsProblem p) 
     )
 
     walls_fit : PointsBelow front further p cell → FitsWalls p cell (normal_of_rows made)
-    walls_fit w = each_pair (λ s a b. (c : ℕ) → IsFurther s a b c → PointBelow front further (point_at s a) (point_at s c)) (FitsSupport (normal_of_rows made)) p.supports cell
+    walls_fit w = pairs_map p.supports cell (λ s a b. (c : ℕ) → IsFurther s a b c → PointBelow front further (point_at s a) (point_at s c)) (FitsSupport (normal_of_rows made))
         (λ s a b h c further. wall_fits (point_at s a) (point_at s c) (h c further)) w
 
     circuits_fit : PointsBelow front further p cell → (j c : ℕ) → IsFurtherAt p cell j c → FitsCircuit p cell j c made
@@ -119,7 +113,7 @@ module _ (p : Problem) (cell : Cell) (front further : ℕ) (well : IsProblem p) 
 
   -- the lines of the pairs' own second points
   pub own_lines_fit : EachPair p.supports cell (λ s a b. PointBelow front further (point_at s a) (point_at s b)) → FitOwnLines p cell
-  own_lines_fit w made e = each_pair (λ s a b. PointBelow front further (point_at s a) (point_at s b)) (λ s a b. FitsWall (normal_of_rows made) (point_at s a) (point_at s b)) p.supports cell
+  own_lines_fit w made e = pairs_map p.supports cell (λ s a b. PointBelow front further (point_at s a) (point_at s b)) (λ s a b. FitsWall (normal_of_rows made) (point_at s a) (point_at s b))
       (λ s a b below. wall_fits made e (point_at s a) (point_at s b) below) w
 
 pub cell_fits : CellFits
@@ -187,11 +181,11 @@ module _ (p : Problem) (fs hs : List ℕ) (well : IsProblem p) (fits : FitsByRan
 
   whole_fits : FitsWhole p cell
   whole_fits = fits_whole p cell (product fs) (sum_over hs fs) well of rows_fit
-      (each_pair (AllBelow (product fs) (sum_over hs fs)) (λ s a b. (c : ℕ) → IsFurther s a b c → PointBelow (product fs) (sum_over hs fs) (point_at s a) (point_at s c)) p.supports cell (λ s a b h. h.1) all_below)
+      (pairs_map p.supports cell (AllBelow (product fs) (sum_over hs fs)) (λ s a b. (c : ℕ) → IsFurther s a b c → PointBelow (product fs) (sum_over hs fs) (point_at s a) (point_at s c)) (λ s a b h. h.1) all_below)
 
   pub own_lines : FitOwnLines p cell
   own_lines = own_lines_fit p cell (product fs) (sum_over hs fs) well of rows_fit
-      (each_pair (AllBelow (product fs) (sum_over hs fs)) (λ s a b. PointBelow (product fs) (sum_over hs fs) (point_at s a) (point_at s b)) p.supports cell (λ s a b h. h.0) all_below)
+      (pairs_map p.supports cell (AllBelow (product fs) (sum_over hs fs)) (λ s a b. PointBelow (product fs) (sum_over hs fs) (point_at s a) (point_at s b)) (λ s a b h. h.0) all_below)
 
 pub cells_fit : CellsFit
 cells_fit = whole_fits

@@ -10,7 +10,7 @@ use Rattle.cayley.specs.Files.{FilePoint, File, resting}
 use Rattle.cayley.specs.Paths.{least_coordinates, corner, later_corners, direction_corners, corners, default_start, default_starts_from, default_starts, starts_of, path_supports, path, simplex_edge}
 use Rattle.cayley.specs.Valid.{IsValidFile}
 use Rattle.cayley.proofs.OneCell.CellRows.{each_position}
-use Rattle.cayley.proofs.OneCell.Unperturbed.{unranked}
+use Rattle.cayley.proofs.Ranking.Unperturbed.{unranked}
 use Rattle.cayley.proofs.Ranking.Unranked.{unranked_ranked}
 use Rattle.start_system.proofs.Making.ValidPaths.{path_valid}
 use Rattle.start_system.proofs.Path.Positions.{point_mapped}
@@ -18,7 +18,7 @@ use Rattle.start_system.proofs.Path.Supports.{AreHeights}
 use Rattle.start_system.proofs.Path.Reach.{Long, Inside, length-least, inside_all, reach_positive}
 use Rattle.start_system.proofs.Started.Heights.{own_left_out, other_first, valid_lift, default_given, own_given}
 use Rattle.elimination_bound.specs.Bounds.{product, sum_over}
-use Rattle.cayley.proofs.Lists.Each.{each_append}
+use Rattle.int_vectors.proofs.Each.{each_append}
 use Rattle.cell_bound.specs.Ranges.{AreNear, HasRange, HaveRanges, FitsByRanges}
 use Rattle.cell_bound.specs.Quiet.{IsNarrow, IsQuiet, QuietLaw}
 use Rattle.cell_bound.specs.OwnLines.{QuietOwnLaw}

@@ -11,7 +11,7 @@ use Rattle.int_vectors.proofs.BoundRows.{size-append}
 use Rattle.cayley.specs.Cells.{Cell, IsOf}
 use Rattle.cayley.specs.Problems.{Point, Problem, IsProblem, HasCorners, point_at}
 use Rattle.cayley.specs.Valid.{IsValidProblem, support_at}
-use Rattle.cayley.proofs.Lists.Each.{all_each}
+use Rattle.int_vectors.proofs.Each.{all_each}
 use Rattle.cayley.proofs.Lists.Supports.{each_support_at, each_support_long, valid_points}
 use Rattle.cayley.proofs.OneCell.CellRows.{each_position}
 use Rattle.cone_walls.proofs.ProblemPoints.{IsNear}

@@ -1,9 +1,9 @@
 -- what doesn't look at ranks holds of the supports with their ranks and without them
-use Rattle.std.proofs.Common.{ℕ, ◌≤◌, ◌↔◌, List, [], ◌∷◌, length, map, sym, subst, subst₂}
+use Rattle.std.proofs.Common.{ℕ, ◌≤◌, ◌↔◌, List, [], map, sym, subst, subst₂}
 use Rattle.std.proofs.lemmas.List.{length-map}
 use Rattle.cayley.specs.Problems.{Point, point_at, with_rank}
 use Rattle.cayley.specs.Cells.{Cell, EachPair, IsFurther}
-use Rattle.cayley.proofs.OneCell.Unperturbed.{unranked, point_unranked, each_pair_unranked, unranked_each_pair}
+use Rattle.cayley.proofs.Ranking.Unperturbed.{unranked, point_unranked, each_pair_unranked, unranked_each_pair}
 
 -- Q is the same of two points without their ranks
 module _ (Q : Point → Point → Type 0) (to : (x y : Point) → Q x y → Q (with_rank 0 x) (with_rank 0 y)) (from : (x y : Point) → Q (with_rank 0 x) (with_rank 0 y) → Q x y) where

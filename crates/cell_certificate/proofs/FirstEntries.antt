@@ -6,7 +6,7 @@ use Rattle.std.proofs.Math.IntN.{ℤ, pos, ◌+ℤ◌, ◌-ℤ◌, ◌*ℤ◌, n
 use Rattle.wide_int.proofs.Ring.{as_D, Ds, same_D}
 use Rattle.wide_int.proofs.Order.{sign_cases, mul_pos_ℤ, mul_pos_neg_ℤ, zero_product}
 use Rattle.int_vectors.specs.Vectors.{IsZero, IsPositive, add, sub, scale, dot, at, entries_at}
-use Rattle.int_vectors.proofs.Entries.{length-scale}
+use Rattle.int_vectors.proofs.Entries.{length-scale, at-zero}
 use Rattle.cayley.specs.Times.{time_zero}
 use Rattle.cayley.specs.Problems.{Point, Problem, point_at}
 use Rattle.cayley.specs.Cells.{Cell, EachPair, IsIndependent}
@@ -14,7 +14,7 @@ use Rattle.cayley.specs.Normals.{Normal, height, gap, IsNormal}
 use Rattle.cayley.specs.Mixed.{HasFirstEntries}
 use Rattle.cayley.specs.Resting.{rise}
 use Rattle.cayley.proofs.Algebra.ScaledInverse.{dot-add, dot-scale}
-use Rattle.cayley.proofs.Algebra.RowNormals.{gap-at, at-zero}
+use Rattle.cayley.proofs.Algebra.RowNormals.{gap-at}
 use Rattle.cayley.proofs.OneCell.CellNormals.{same_long}
 use Rattle.cayley.proofs.OneCell.OneNormal.{same_lists}
 use Rattle.cayley.proofs.Life.Targets.{positive_first}

@@ -15,10 +15,11 @@ use Rattle.cayley.specs.Dependencies.{pair_at, nth_support}
 use Rattle.cayley.specs.Normals.{gap, IsNormal, IsAbove}
 use Rattle.cayley.specs.Resting.{rise, normal_over}
 use Rattle.cayley.specs.Rows.{edge_rows}
-use Rattle.cayley.proofs.Flipping.Places.{pairs_long, further_bound}
+use Rattle.cayley.proofs.Flipping.Places.{further_bound}
 use Rattle.cayley.proofs.OneCell.CellNormals.{a_normal}
 use Rattle.cayley.proofs.OneCell.CellRows.{each_position}
 use Rattle.cayley.proofs.OneCell.RestingGaps.{positive_gap}
+use Rattle.cayley.proofs.Lists.Pairs.{pairs_map, pairs_both, pairs_long}
 use Rattle.inner_normal.specs.Coefficients.{FitsCircuit}
 use Rattle.inner_normal.specs.Inverses.{Inverse, inverse_of, FitsInverse}
 use Rattle.listing_text.specs.declared.listing.ListedCell.{ListedCell}
@@ -29,7 +30,6 @@ use Rattle.cell_certificate.proofs.FirstEntries.{first_entries_of, over_first, b
 use Rattle.cell_certificate.proofs.Levels.{Even, shape, first_even, level_from}
 use Rattle.cell_certificate.proofs.PlainSums.{risen}
 use Rattle.cell_certificate.proofs.Spots.{each_pair_place, fault_of_more}
-use Rattle.cell_certificate.proofs.Together.{pairs_map, pairs_both}
 
 -- by places, and pair by pair
 each_of_places : (Q : List Point → ℕ → ℕ → Type 0) (ss : List (List Point)) (cell : Cell) → length ss ≡ length cell
@@ -63,8 +63,7 @@ module _ (p : Problem) (well : IsProblem p) (x : ListedCell) (line : IsLevelLine
   -- positive sums
   rising_least : EachPair p.supports cell (λ s a b. (c : ℕ) → RisesAt den v s a b c) → HasLeast p x
   rising_least e w n =
-      pairs_map p.supports cell (λ s a b. (c : ℕ) → RisesAt den v s a b c) _ e
-      (λ s a b r c f. over_first w v den (point_at s a) (point_at s c) line.0.2 (first_entries_of p cell v den w line.0.1 line.1 levels n) (r c f))
+      pairs_map p.supports cell (λ s a b. (c : ℕ) → RisesAt den v s a b c) _ (λ s a b r c f. over_first w v den (point_at s a) (point_at s c) line.0.2 (first_entries_of p cell v den w line.0.1 line.1 levels n) (r c f)) e
 
   -- no sum is 0
   pub least_free : EachPair p.supports cell (λ s a b. (c : ℕ) → UntiedAt den v s a b c) → EachPair p.supports cell (λ s a b. (c : ℕ) → RisesAt den v s a b c) ↔ HasLeast p x
@@ -73,12 +72,10 @@ module _ (p : Problem) (well : IsProblem p) (x : ListedCell) (line : IsLevelLine
     (λ least.
         let n = a_normal p cell well line.0.0 line.1 time_zero in
         let e = first_entries_of p cell v den n.0 line.0.1 line.1 levels n.1 in
-        pairs_both p.supports cell (λ s a b. (c : ℕ) → IsFurther s a b c → IsAbove time_zero n.0 s a c) (λ s a b. (c : ℕ) → UntiedAt den v s a b c) (λ s a b. (c : ℕ) → RisesAt den v s a b c)
-        (least n.0 n.1) free
-        (λ s a b up u c f. sign_cases (rise den v (point_at s a) (point_at s c))
+        pairs_both p.supports cell (λ s a b. (c : ℕ) → IsFurther s a b c → IsAbove time_zero n.0 s a c) (λ s a b. (c : ℕ) → UntiedAt den v s a b c) (λ s a b. (c : ℕ) → RisesAt den v s a b c) (λ s a b up u c f. sign_cases (rise den v (point_at s a) (point_at s c))
         (λ q. absurd (below_first n.0 v den (point_at s a) (point_at s c) line.0.2 e q (up c f)))
         (λ q. absurd (u c f q))
-        (λ q. q))),
+        (λ q. q)) (least n.0 n.1) free),
   )
 
   pub free_ties : EachPair p.supports cell (λ s a b. (c : ℕ) → UntiedAt den v s a b c) → HasTies p x
@@ -103,9 +100,7 @@ module _ (p : Problem) (well : IsProblem p) (x : ListedCell) (line : IsLevelLine
       (λ least.
           let up = subst (λ (ss : List (List Point)). EachPair ss cell (λ s a b. (c : ℕ) → IsFurther s a b c → IsAbove time_zero (normal_over v den line.3.0) s a c)) supports_are (least (normal_over v den line.3.0) own) in
           (risen p cell v den).1
-          (pairs_both (unperturbed p).supports cell Even (λ s a b. (c : ℕ) → IsFurther s a b c → IsAbove time_zero (normal_over v den line.3.0) s a c) (λ s a b. (c : ℕ) → RisesAt den v s a b c)
-          (shape p cell line.0.0 v den) up
-          (λ s a b i h c f. (positive_gap v den line.3.0 (point_at s a) (point_at s c) (first_even s a b i) (each_position (λ (y : Point). y.rank ≡ 0) s c f.0 f.1 i.1)).0 (h c f)))),
+          (pairs_both (unperturbed p).supports cell Even (λ s a b. (c : ℕ) → IsFurther s a b c → IsAbove time_zero (normal_over v den line.3.0) s a c) (λ s a b. (c : ℕ) → RisesAt den v s a b c) (λ s a b i h c f. (positive_gap v den line.3.0 (point_at s a) (point_at s c) (first_even s a b i) (each_position (λ (y : Point). y.rank ≡ 0) s c f.0 f.1 i.1)).0 (h c f)) (shape p cell line.0.0 v den) up)),
     )
 
     pub plain_ties : HasTies p x

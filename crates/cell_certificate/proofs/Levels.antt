@@ -1,5 +1,5 @@
 -- what the sums say of the normal v / den
-use Rattle.std.proofs.Common.{◌≡◌, ◌↔◌, ℕ, List, [], ◌∷◌, length, map, arith, refl, sym, subst, ◌∙◌, ◌<ℤ◌}
+use Rattle.std.proofs.Common.{◌≡◌, ◌↔◌, ℕ, List, [], ◌∷◌, length, map, arith, refl, subst, ◌∙◌, ◌<ℤ◌}
 use Rattle.std.proofs.Math.IntN.{ℤ, pos}
 use Rattle.std.proofs.lemmas.List.{length-map}
 use Rattle.int_vectors.specs.Vectors.{Each, IsZero}
@@ -10,10 +10,10 @@ use Rattle.cayley.specs.Normals.{gap}
 use Rattle.cayley.specs.Resting.{rise, normal_over}
 use Rattle.cell_certificate.specs.Tests.{IsLevelAt}
 use Rattle.cell_certificate.proofs.Blind.{each_own}
-use Rattle.cell_certificate.proofs.Together.{pairs_both, pairs_each}
 use Rattle.cayley.proofs.OneCell.CellRows.{InRange, each_position}
 use Rattle.cayley.proofs.OneCell.RestingGaps.{gap_is, zero_gap}
-use Rattle.cayley.proofs.OneCell.Unperturbed.{unranked, same_unperturbed, same_of}
+use Rattle.cayley.proofs.Ranking.Unperturbed.{unranked, same_unperturbed, same_of}
+use Rattle.cayley.proofs.Lists.Pairs.{pairs_both, pairs_each}
 
 -- a point has no infinitesimal of its own
 abbrev pub IsEven : Point → Type 0
@@ -52,12 +52,10 @@ module _ (p : Problem) (cell : Cell) (of : IsOf p cell) (v : List ℤ) (den : �
     h,
     (
       length-map v (λ x. x ∷ []) ∙ long,
-      pairs_both (unperturbed p).supports cell Even (AreFlat v den) _ shape (flat.0 e)
-          (λ s a b i z. zero_gap v den h (point_at s a) (point_at s b) (first_even s a b i) (second_even s a b i) z),
+      pairs_both (unperturbed p).supports cell Even (AreFlat v den) _ (λ s a b i z. zero_gap v den h (point_at s a) (point_at s b) (first_even s a b i) (second_even s a b i) z) shape (flat.0 e),
     ),
   )
 
   pub level_from : IsLevelAt p cell v den → EachPair p.supports cell (AreFlat v den)
   level_from l = flat.1
-      (pairs_both (unperturbed p).supports cell Even (λ s a b. IsZero (gap time_zero (normal_over v den l.0) (point_at s a) (point_at s b))) (AreFlat v den) shape l.1.1
-      (λ s a b i z. (subst IsZero (gap_is v den l.0 (point_at s a) (point_at s b) (first_even s a b i) (second_even s a b i)) z).0))
+      (pairs_both (unperturbed p).supports cell Even (λ s a b. IsZero (gap time_zero (normal_over v den l.0) (point_at s a) (point_at s b))) (AreFlat v den) (λ s a b i z. (subst IsZero (gap_is v den l.0 (point_at s a) (point_at s b) (first_even s a b i) (second_even s a b i)) z).0) shape l.1.1)

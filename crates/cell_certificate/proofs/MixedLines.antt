@@ -19,7 +19,7 @@ use Rattle.cell_certificate.proofs.FirstEntries.{first_entries_of}
 use Rattle.cell_certificate.proofs.Levels.{level_from}
 use Rattle.cell_certificate.proofs.PlainPoints.{own_points}
 use Rattle.cayley.proofs.OneCell.CellNormals.{a_normal}
-use Rattle.cayley.proofs.OneCell.PlainProblems.{plain_valid}
+use Rattle.cayley.proofs.Ranking.PlainProblems.{plain_valid}
 
 pub first_entries : (v : List ℤ) → map (λ (e : List ℤ). at e 0) (map (λ (x : ℤ). x ∷ []) v) ≡ v
 first_entries [] = refl

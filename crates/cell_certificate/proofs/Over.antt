@@ -11,10 +11,11 @@ use Rattle.cayley.specs.Cells.{Cell, EachPair, IsOf, IsIndependent}
 use Rattle.cayley.specs.Normals.{Normal, mark, height, IsNormal}
 use Rattle.cayley.specs.Mixed.{HasFirstEntries}
 use Rattle.cayley.specs.Dependencies.{Numbers, pair_at, IsFurtherAt, total, sum_of_heights, sum_at, IsPositiveDependency, nth_support}
-use Rattle.cayley.proofs.Flipping.Places.{pairs_long, further_bound}
+use Rattle.cayley.proofs.Flipping.Places.{further_bound}
 use Rattle.cayley.proofs.OneCell.CellNormals.{a_normal}
-use Rattle.cayley.proofs.OneCell.CellNumbers.{total-same}
+use Rattle.cayley.proofs.Flipping.CellNumbers.{total-same}
 use Rattle.cayley.proofs.OneCell.OneDependency.{sum_gap, sides}
+use Rattle.cayley.proofs.Lists.Pairs.{pairs_long}
 use Rattle.inner_normal.specs.Orders.{in_order, ordered}
 use Rattle.inner_normal.proofs.RankOrder.{sum_in, numbers_in, sign_in, ranked_pairs, numbers_are, marked, sum_is, HaveRanksFrom, rise_is}
 use Rattle.inner_normal.specs.RankedNumbers.{Ranked, ranked}

@@ -5,11 +5,11 @@ use Rattle.std.specs.Prelude.{min}
 use Rattle.cayley.specs.Problems.{Version, version2, Point, Problem, unperturbed, ranked_supports, numbered_supports, ranks_in, first_points, file_points}
 use Rattle.cayley.specs.Files.{FilePoint, File, resting, plain_problem}
 use Rattle.cayley.specs.Valid.{IsValidFile}
-use Rattle.cayley.proofs.OneCell.PlainProblems.{plain_unperturbed}
-use Rattle.cayley.proofs.OneCell.Unperturbed.{unranked}
+use Rattle.cayley.proofs.Ranking.PlainProblems.{plain_unperturbed}
+use Rattle.cayley.proofs.Ranking.Unperturbed.{unranked}
 use Rattle.cayley.proofs.Ranking.Unranked.{unranked_ranked, ranked_twice}
 use Rattle.cayley.proofs.Ranking.Numbering.{corners_before, rank_there}
-use Rattle.cayley.proofs.OneCell.FilePointRanks.{length-numbered}
+use Rattle.cayley.proofs.Ranking.FilePointRanks.{length-numbered}
 use Rattle.inner_normal.proofs.RankOrder.{HaveRanksFrom}
 
 -- ---- its own file points

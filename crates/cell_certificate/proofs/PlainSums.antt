@@ -4,10 +4,11 @@ use Rattle.std.proofs.Math.IntN.{ℤ, pos}
 use Rattle.cayley.specs.Cells.{Cell, EachPair}
 use Rattle.cayley.specs.Problems.{Problem, point_at, unperturbed}
 use Rattle.cayley.specs.Resting.{rise}
+use Rattle.cayley.proofs.Lists.Pairs.{pairs_together}
 use Rattle.cell_certificate.specs.Sides.{FitsSupport}
 use Rattle.cell_certificate.specs.Sums.{FitsRise, RisesAt, UntiedAt, FitsAt, FitsOwn, FitsFurther, FitsSums}
 use Rattle.cell_certificate.proofs.Blind.{each_own, each_further}
-use Rattle.cell_certificate.proofs.Together.{together, apart}
+use Rattle.cell_certificate.proofs.Together.{apart}
 
 module _ (p : Problem) (cell : Cell) (v : List ℤ) (den : ℤ) where
   own_fit : FitsOwn p cell v den ↔ FitsOwn (unperturbed p) cell v den
@@ -18,7 +19,7 @@ module _ (p : Problem) (cell : Cell) (v : List ℤ) (den : ℤ) where
 
   pub sums_fit : FitsSums p cell v den ↔ EachPair (unperturbed p).supports cell (FitsSupport den v)
   sums_fit = (
-    (λ f. together (unperturbed p).supports cell (λ s a b. FitsRise den v (point_at s a) (point_at s b)) (λ s a b. (c : ℕ) → FitsAt den v s a b c) (own_fit.0 f.0) (further_fit.0 f.1)),
+    (λ f. pairs_together (unperturbed p).supports cell (λ s a b. FitsRise den v (point_at s a) (point_at s b)) (λ s a b. (c : ℕ) → FitsAt den v s a b c) (own_fit.0 f.0) (further_fit.0 f.1)),
     (λ e.
         let h = apart (unperturbed p).supports cell (λ s a b. FitsRise den v (point_at s a) (point_at s b)) (λ s a b. (c : ℕ) → FitsAt den v s a b c) e in
         (own_fit.1 h.0, further_fit.1 h.1)),

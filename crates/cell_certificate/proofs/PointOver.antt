@@ -12,8 +12,9 @@ use Rattle.cayley.specs.Problems.{Problem, IsProblem, version2}
 use Rattle.cayley.specs.Cells.{Cell}
 use Rattle.cayley.specs.Dependencies.{pair_at, IsFurtherAt, Numbers, IsPositiveDependency, nth_support}
 use Rattle.cayley.specs.Resting.{rise}
-use Rattle.cayley.proofs.Flipping.Places.{pairs_long, further_bound}
-use Rattle.cayley.proofs.OneCell.PlainProblems.{plain_valid}
+use Rattle.cayley.proofs.Flipping.Places.{further_bound}
+use Rattle.cayley.proofs.Ranking.PlainProblems.{plain_valid}
+use Rattle.cayley.proofs.Lists.Pairs.{pairs_long}
 use Rattle.inner_normal.specs.Coefficients.{difference, FitsCoefficients}
 use Rattle.inner_normal.specs.Inverses.{Inverse}
 use Rattle.inner_normal.specs.Orders.{ordered}

@@ -10,7 +10,7 @@ use Rattle.cayley.specs.Problems.{Point, Problem, point_at, with_rank, unperturb
 use Rattle.cayley.specs.Cells.{Cell, EachPair}
 use Rattle.cayley.specs.Dependencies.{pair_at, IsFurtherAt, nth_support}
 use Rattle.cayley.specs.Resting.{rise}
-use Rattle.cayley.proofs.OneCell.Unperturbed.{unranked, point_unranked, support_unranked}
+use Rattle.cayley.proofs.Ranking.Unperturbed.{unranked, point_unranked, support_unranked}
 use Rattle.reduced_rows.specs.Refusals.{IsFromFault}
 use Rattle.reduced_rows.specs.declared.faults.FromFault.{FromFault}
 use Rattle.reduced_rows.specs.declared.faults.FromFault.TheVariants.{Overflow, OutOfMemory}

@@ -8,8 +8,8 @@ use Rattle.cayley.specs.Valid.{IsValidFile, IsWithinFile}
 use Rattle.cayley.specs.Files.{FilePoint, File, resting, plain_problem}
 use Rattle.cayley.specs.Problems.{unperturbed}
 use Rattle.cayley.specs.Cells.{Cell, IsOf}
-use Rattle.cayley.proofs.Lists.Each.{map_map}
-use Rattle.cayley.proofs.Flipping.Places.{pairs_long}
+use Rattle.int_vectors.proofs.Each.{map_map, each_both}
+use Rattle.cayley.proofs.Lists.Pairs.{pairs_long}
 use Rattle.cell_certificate.specs.Sides.{seen, IsNear, IsPairOf}
 use Rattle.cell_certificate.proofs.PlainPoints.{resting_points}
 use Rattle.cell_certificate.proofs.Turns.{pair_at}
@@ -36,10 +36,6 @@ each_at P [] k h e = absurd (omega arith)
 each_at P (x ∷ xs) zero h e = e.0
 each_at P (x ∷ xs) (suc k) h e = each_at P xs k (omega arith) e.1
 
-each_both : {A : Type 0} (xs : List A) (P Q : A → Type 0) → Each xs P → Each xs Q → Each xs (λ x. P x × Q x)
-each_both [] P Q e f = tt
-each_both (x ∷ xs) P Q e f = ((e.0, f.0), each_both xs P Q e.1 f.1)
-
 pub near_is : (file : File) (points : List StoredPoint) (k n : ℕ) → IsValidFile file → k < file.dimension → n ≡ file.dimension → map file_point points ≡ get_or file.supports k []
     → Each (map file_point points) (IsNear n)
 near_is file points k n valid h d e =
@@ -47,7 +43,7 @@ near_is file points k n valid h d e =
     let long = each_at (λ s. Each s (λ (x : FilePoint). length x.coordinates ≡ file.dimension)) file.supports k l valid.shape.points in
     let within = each_at (λ s. Each s IsWithinFile) file.supports k l valid.limits in
     subst (λ m. Each (map file_point points) (IsNear m)) (sym d)
-    (subst (λ s. Each s (IsNear file.dimension)) (sym e) (each_both (get_or file.supports k []) (λ (x : FilePoint). length x.coordinates ≡ file.dimension) IsWithinFile long within))
+    (subst (λ s. Each s (IsNear file.dimension)) (sym e) (each_both (λ (x : FilePoint). length x.coordinates ≡ file.dimension) IsWithinFile (get_or file.supports k []) long within))
 
 -- a pair of the cell, as positions of the file's points
 pub pair_is : (file : File) (cell pairs : Cell) (points : List StoredPoint) (k : ℕ) → IsValidFile file → IsOf (unperturbed (plain_problem file)) cell → k < file.dimension

@@ -8,9 +8,9 @@ use Rattle.wide_int.proofs.CommonDivisors.{lcm_positive, quotient_times}
 use Rattle.wide_int.proofs.Signed.{abs_positive, neg_fits}
 use Rattle.int_vectors.specs.Vectors.{Each, scale, at, IsOrthogonal, zeros}
 use Rattle.reduced_rows.specs.Denominators.{lcm_from, FitsLcm, share, shares, FitsShares}
-use Rattle.reduced_rows.specs.Spans.{IsReduced, IsReducedOf}
+use Rattle.reduced_rows.specs.Spans.{IsReducedOf}
 use Rattle.reduced_rows.specs.Steps.{elimination}
-use Rattle.reduced_rows.proofs.Orthogonal.{length-shares}
+use Rattle.reduced_rows.proofs.Orthogonal.{length-shares, lcm_some}
 use Rattle.reduced_rows.proofs.Outcome.{reduced_means, kernel_means_it}
 use Rattle.reduced_rows.proofs.Solving.{column_solves}
 use Rattle.cayley.specs.Times.{time_zero}
@@ -26,16 +26,11 @@ use Rattle.inner_normal.proofs.CellAnswers.{rows_lengths, cell_kernel, kernel_de
 use Rattle.cell_certificate.proofs.Levels.{level_to}
 use Rattle.cell_certificate.proofs.MixedLines.{first_entries}
 use Rattle.cell_certificate.proofs.Multiples.{divides_whole, multiple_is, less_fits, rise_less}
-use Rattle.cell_certificate.proofs.Together.{pairs_map}
 use Rattle.cayley.specs.Resting.{normal_over}
 use Rattle.cayley.proofs.OneCell.CellRows.{rows_count}
 use Rattle.cayley.proofs.OneCell.RestingGaps.{level_from}
-use Rattle.cayley.proofs.OneCell.Unperturbed.{same_unperturbed, same_well, same_of, same_independent}
-
-lcm_up : (n j l : ℕ) (rows : List (List ℤ)) → IsReduced n j rows → 0 < l → 0 < lcm_from j l rows
-unfolding lcm_from
-lcm_up n j l [] r p = p
-lcm_up n j l (row ∷ rows) r p = lcm_up n (suc j) _ rows r.2 (lcm_positive l (unsigned_abs (at row j)) p (abs_positive (at row j) r.0))
+use Rattle.cayley.proofs.Ranking.Unperturbed.{same_unperturbed, same_well, same_of, same_independent}
+use Rattle.cayley.proofs.Lists.Pairs.{pairs_map}
 
 no_zeros : (xs : List ℤ) → xs ++ zeros 0 ≡ xs
 unfolding zeros
@@ -83,7 +78,7 @@ module _ (p : Problem) (cell : Cell) (well : IsProblem p) (of : IsOf p cell) (in
     ps = shares p.dimension 0 l made
 
     l_up : 0 < l
-    l_up = lcm_up p.dimension 0 1 made red.reduced (omega arith)
+    l_up = lcm_some p.dimension 0 1 made (omega arith) red.reduced
 
     ps_long : length ps ≡ p.dimension
     ps_long = length-shares p.dimension 0 l made ∙ red.count
@@ -130,14 +125,12 @@ module _ (p : Problem) (cell : Cell) (well : IsProblem p) (of : IsOf p cell) (in
     pub reduced_further : FitsFurther p cell ps (pos l) → FitsFurther p cell v (pos d)
     reduced_further f =
         let e = multiple_is d j ps v up (proportion ∙ ap (λ n. scale (pos n) v) l_is) in
-        pairs_map p.supports cell (λ s a b. (c : ℕ) → FitsAt (pos l) ps s a b c) (λ s a b. (c : ℕ) → FitsAt (pos d) v s a b c) f
-        (λ s a b g c u. rise_less d j v (point_at s a) (point_at s c) j_up (subst₂ (λ n xs. FitsRise (pos n) xs (point_at s a) (point_at s c)) l_is e (g c u)))
+        pairs_map p.supports cell (λ s a b. (c : ℕ) → FitsAt (pos l) ps s a b c) (λ s a b. (c : ℕ) → FitsAt (pos d) v s a b c) (λ s a b g c u. rise_less d j v (point_at s a) (point_at s c) j_up (subst₂ (λ n xs. FitsRise (pos n) xs (point_at s a) (point_at s c)) l_is e (g c u))) f
 
     pub reduced_own : FitsOwn p cell ps (pos l) → FitsOwn p cell v (pos d)
     reduced_own f =
         let e = multiple_is d j ps v up (proportion ∙ ap (λ n. scale (pos n) v) l_is) in
-        pairs_map p.supports cell (λ s a b. FitsRise (pos l) ps (point_at s a) (point_at s b)) (λ s a b. FitsRise (pos d) v (point_at s a) (point_at s b)) f
-        (λ s a b g. rise_less d j v (point_at s a) (point_at s b) j_up (subst₂ (λ n xs. FitsRise (pos n) xs (point_at s a) (point_at s b)) l_is e g))
+        pairs_map p.supports cell (λ s a b. FitsRise (pos l) ps (point_at s a) (point_at s b)) (λ s a b. FitsRise (pos d) v (point_at s a) (point_at s b)) (λ s a b g. rise_less d j v (point_at s a) (point_at s b) j_up (subst₂ (λ n xs. FitsRise (pos n) xs (point_at s a) (point_at s b)) l_is e g)) f
 
   -- the elimination gives reduced rows, since the cell is independent
   with_made : (Q : Type 0) → ((made : List (List ℤ)) → elimination p.dimension (edge_rows p cell) ≡ Ok made → IsReducedOf p.dimension (edge_rows p cell) made → Q)

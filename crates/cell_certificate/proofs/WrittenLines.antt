@@ -9,7 +9,7 @@ use Rattle.cayley.specs.Cells.{Cell, IsSorted, IsIndependent}
 use Rattle.cayley.specs.Normals.{IsNormal}
 use Rattle.cayley.specs.Mixed.{IsAlive, IsMixedCell, IsLowestNormal}
 use Rattle.cayley.proofs.OneCell.OneNormal.{all_above_any}
-use Rattle.cayley.proofs.OneCell.PlainProblems.{plain_valid}
+use Rattle.cayley.proofs.Ranking.PlainProblems.{plain_valid}
 use Rattle.listing_text.specs.declared.listing.Listing.{Listing}
 use Rattle.listing_text.specs.declared.listing.ListedCell.{ListedCell}
 use Rattle.cell_certificate.specs.declared.judgement.Judgement.{Judgement}

@@ -1,16 +1,15 @@
 -- the dependency of a cell and a further point is its circuit
-use Rattle.std.proofs.Common.{◌≡◌, ℕ, suc, ◌+◌, ◌*◌, ◌<◌, ◌≤◌, List, length, arith, sym, subst, subst₂, ◌∙◌, ◌<ℤ◌, ◌≤ℤ◌}
+use Rattle.std.proofs.Common.{◌≡◌, ℕ, suc, ◌+◌, ◌*◌, ◌<◌, ◌≤◌, length, arith, sym, subst, subst₂, ◌∙◌, ◌<ℤ◌}
 use Rattle.std.proofs.lemmas.Int.{ints}
 use Rattle.std.proofs.Math.IntN.{ℤ, pos}
 use Rattle.reduced_rows.specs.CellRefusals.{IsEliminated}
 use Rattle.cayley.specs.Problems.{Problem, IsProblem, HasSamePoints}
 use Rattle.cayley.specs.Cells.{Cell, IsOf, IsIndependent}
-use Rattle.cayley.specs.Rows.{edge_rows}
 use Rattle.cayley.specs.Dependencies.{IsFurtherAt, IsPositiveDependency}
 use Rattle.cayley.proofs.OneCell.CellRows.{InRange, rows_independent}
 use Rattle.cayley.proofs.OneCell.OneDependency.{dependency_law}
-use Rattle.cayley.proofs.OneCell.Unperturbed.{same_rows, same_dimension, same_of, same_well, same_further}
-use Rattle.inner_normal.specs.Coefficients.{difference, coefficients_of, numbers_of, last_of}
+use Rattle.cayley.proofs.Ranking.Unperturbed.{same_rows, same_dimension, same_of, same_well, same_further}
+use Rattle.inner_normal.specs.Coefficients.{numbers_of, last_of}
 use Rattle.inner_normal.specs.Inverses.{Inverse, IsInverseOf}
 use Rattle.inner_normal.proofs.Meaning.{reduced_of}
 use Rattle.inner_normal.proofs.Reading.{cell_long}

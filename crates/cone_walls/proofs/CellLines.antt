@@ -11,13 +11,14 @@ use Rattle.cayley.specs.Dependencies.{pair_at, IsFurtherAt, minus, nth_support}
 use Rattle.cayley.specs.Mixed.{IsAlive}
 use Rattle.cayley.specs.Normals.{Normal, IsNormal, IsAbove, IsLevel, IsBelow}
 use Rattle.cayley.specs.Valid.{IsValidProblem}
-use Rattle.cayley.proofs.Flipping.Places.{pairs_long, further_bound}
-use Rattle.cayley.proofs.Lists.Each.{all_each}
+use Rattle.cayley.proofs.Flipping.Places.{further_bound}
+use Rattle.int_vectors.proofs.Each.{all_each}
 use Rattle.cayley.proofs.OneCell.CellRows.{InRange}
 use Rattle.cayley.proofs.OneCell.MovingNormals.{Moving, wall}
 use Rattle.cayley.proofs.OneCell.MovingWalls.{wall_above, wall_level, wall_below}
-use Rattle.cayley.proofs.OneCell.Unperturbed.{same_unperturbed, same_well, same_of, same_independent}
+use Rattle.cayley.proofs.Ranking.Unperturbed.{same_unperturbed, same_well, same_of, same_independent}
 use Rattle.cayley.proofs.Order.Lines.{Line, line_at}
+use Rattle.cayley.proofs.Lists.Pairs.{pairs_long}
 use Rattle.crossing.specs.declared.line.WallLine.{WallLine}
 use Rattle.crossing.specs.Lines.{FitsLine, IsFlat}
 use Rattle.crossing.specs.Places.{origin, IsNowhere}

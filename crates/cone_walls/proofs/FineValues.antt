@@ -17,7 +17,7 @@ use Rattle.cayley.specs.Cells.{Cell}
 use Rattle.cayley.specs.Dependencies.{Numbers, total, sum_of_heights, sum_at}
 use Rattle.cayley.specs.Normals.{mark, height}
 use Rattle.cayley.proofs.OneCell.CellLines.{base_of, height-at}
-use Rattle.cayley.proofs.OneCell.Unperturbed.{unranked, point_unranked}
+use Rattle.cayley.proofs.Ranking.Unperturbed.{unranked, point_unranked}
 use Rattle.crossing.specs.declared.line.WallLine.{WallLine}
 use Rattle.crossing.specs.Lines.{value}
 use Rattle.cone_walls.specs.Fines.{has_rank, sum_of_rank}

@@ -15,7 +15,7 @@ use Rattle.cayley.specs.Cells.{Cell, IsOf}
 use Rattle.cayley.specs.Dependencies as places
 use Rattle.cayley.specs.Dependencies.{IsFurtherAt, number_at}
 use Rattle.cayley.specs.Valid.{IsValidProblem, support_at}
-use Rattle.cayley.proofs.Lists.Each.{all_each, each_all, each_append, each_weaker}
+use Rattle.int_vectors.proofs.Each.{all_each, each_all, each_append, each_weaker}
 use Rattle.cayley.proofs.OneCell.CellRows.{InRange}
 use Rattle.crossing.specs.declared.line.WallLine.{WallLine}
 use Rattle.crossing.specs.Lines.{FitsLine}

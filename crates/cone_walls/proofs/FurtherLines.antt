@@ -7,7 +7,7 @@ use Rattle.int_vectors.specs.Vectors.{Each}
 use Rattle.cayley.specs.Problems.{Point, Problem, origin, point_at}
 use Rattle.cayley.specs.Cells.{Cell, EachPair, IsOf, IsFurther}
 use Rattle.cayley.specs.Dependencies.{pair_at, IsFurtherAt, nth_support}
-use Rattle.cayley.proofs.Lists.Each.{each_append}
+use Rattle.int_vectors.proofs.Each.{each_append}
 use Rattle.crossing.specs.declared.line.WallLine.{WallLine}
 use Rattle.cayley.proofs.OneCell.MovingNormals.{apart}
 use Rattle.inner_normal.specs.declared.moving.MovingNormal.{MovingNormal}

@@ -9,7 +9,7 @@ use Rattle.cayley.specs.Problems.{Point, point_at, with_rank}
 use Rattle.cayley.specs.Cells.{Cell}
 use Rattle.cayley.proofs.Order.Lines.{Line}
 use Rattle.cayley.proofs.OneCell.MovingNormals.{wall, walls_from, walls}
-use Rattle.cayley.proofs.OneCell.Unperturbed.{unranked, point_unranked}
+use Rattle.cayley.proofs.Ranking.Unperturbed.{unranked, point_unranked}
 use Rattle.crossing.specs.declared.line.WallLine.{WallLine}
 use Rattle.inner_normal.specs.declared.moving.MovingNormal.{MovingNormal}
 use Rattle.cone_walls.specs.Listed.{line_of, lines_from, wall_lines}

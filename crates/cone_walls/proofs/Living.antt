@@ -1,14 +1,14 @@
 -- a cell is alive exactly where all its lines are positive
-use Rattle.std.proofs.Common.{◌≡◌, ◌↔◌, ℕ, suc, ◌-◌, List, [], ◌∷◌, arith, sym, subst}
+use Rattle.std.proofs.Common.{◌≡◌, ◌↔◌, suc, ◌-◌, List, [], arith, sym, subst}
 use Rattle.std.specs.Prelude.{All}
 use Rattle.int_vectors.specs.Vectors.{Each, IsPositive}
 use Rattle.cayley.specs.Times.{Time}
-use Rattle.cayley.specs.Problems.{Point, Problem, IsProblem}
-use Rattle.cayley.specs.Cells.{Cell, EachPair, IsOf, IsIndependent, IsFurther}
+use Rattle.cayley.specs.Problems.{Problem, IsProblem}
+use Rattle.cayley.specs.Cells.{Cell, IsOf, IsIndependent}
 use Rattle.cayley.specs.Dependencies.{pair_at, IsFurtherAt, nth_support}
 use Rattle.cayley.specs.Normals.{IsAbove}
 use Rattle.cayley.specs.Mixed.{IsAlive}
-use Rattle.cayley.proofs.Lists.Each.{all_each, each_all, each_weaker, each_both}
+use Rattle.int_vectors.proofs.Each.{all_each, each_all, each_weaker, each_both}
 use Rattle.cayley.proofs.OneCell.OneNormal.{one_normal_law, alive_by_any_normal}
 use Rattle.crossing.specs.declared.line.WallLine.{WallLine}
 use Rattle.crossing.specs.declared.entry.Entry.TheVariants.{Dead}
@@ -16,18 +16,13 @@ use Rattle.crossing.specs.Lines.{value, ArePositive}
 use Rattle.crossing.specs.Entries.{IsEntry}
 use Rattle.crossing.proofs.Between.{positive_between_is}
 use Rattle.cayley.proofs.Life.NamedTies.{pair_place}
+use Rattle.cayley.proofs.Lists.Pairs.{pairs_further}
 use Rattle.cone_walls.specs.Lives.{IsNeverAlive, LivesBetween}
 use Rattle.cone_walls.specs.Places.{AreOfFurtherPoints}
 use Rattle.cone_walls.specs.Sides.{TellsSide, TellSides}
 use Rattle.cone_walls.proofs.FurtherLines.{each_has}
 
 -- ---- from places to pairs and back
-pairs_from : (R : List Point → ℕ → ℕ → Type 0) (Q : List Point → ℕ → ℕ → Type 0) (supports : List (List Point)) (cell : Cell) → EachPair supports cell R
-    → ((j c : ℕ) → IsFurther (nth_support supports j) (pair_at cell j).0 (pair_at cell j).1 c → Q (nth_support supports j) (pair_at cell j).0 c) → EachPair supports cell (λ s a b. (c : ℕ) → IsFurther s a b c → Q s a c)
-pairs_from R Q [] [] of f = tt
-pairs_from R Q [] (x ∷ cell) of f = of
-pairs_from R Q (s ∷ supports) [] of f = of
-pairs_from R Q (s ∷ supports) (x ∷ cell) of f = ((λ c h. f 0 c h), pairs_from R Q supports cell of.1 (λ j c h. f (suc j) c h))
 
 each_all_lines : (P : WallLine → Type 0) (lines : List WallLine) → Each lines P → All P lines
 each_all_lines P lines h k d l = all_each P lines h k d l
@@ -53,7 +48,7 @@ module _ (p : Problem) (cell : Cell) (well : IsProblem p) (of : IsOf p cell) (in
       (λ l k. k.1.0.0 k.0)
       (each_both (λ l. IsPositive (value l t.entries t.over)) (TellsSide p cell t v.0) lines (each_all (λ l. IsPositive (value l t.entries t.over)) lines h) (sides t v.0 v.1)) in
       (alive_by_any_normal p cell t v.0 well of ind v.1).1
-      (pairs_from _ (λ s a c. IsAbove t v.0 s a c) p.supports cell of
+      (pairs_further (λ s a c. IsAbove t v.0 s a c) _ p.supports cell of
       (λ j c f.
       let w : j ≡ suc j - 1 = omega arith in
       subst (λ z. IsAbove t v.0 (nth_support p.supports z) (pair_at cell z).0 c) (sym w)

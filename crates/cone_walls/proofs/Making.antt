@@ -10,8 +10,8 @@ use Rattle.cayley.specs.Problems.{Version, Point, Problem, point_at, unperturbed
 use Rattle.cayley.specs.Problems.Version.{version1}
 use Rattle.cayley.specs.Cells.{Cell, IsIndependent}
 use Rattle.cayley.specs.Dependencies.{IsFurtherAt, nth_support}
-use Rattle.cayley.proofs.Lists.Each.{each_unmap, each_weaker, each_both}
-use Rattle.cayley.proofs.OneCell.Unperturbed.{unranked, support_unranked, same_rows, same_unperturbed}
+use Rattle.int_vectors.proofs.Each.{each_unmap, each_weaker, each_both}
+use Rattle.cayley.proofs.Ranking.Unperturbed.{unranked, support_unranked, same_rows, same_unperturbed}
 use Rattle.crossing.specs.declared.line.WallLine.{WallLine}
 use Rattle.crossing.specs.declared.entry.Entry.TheVariants.{Dead}
 use Rattle.crossing.specs.Entries.{IsEntry}

@@ -3,14 +3,14 @@ use Rattle.std.proofs.Common.{◌≡◌, ℕ, List, [], ◌∷◌, length, arith
 use Rattle.std.proofs.lemmas.Int.{ints}
 use Rattle.std.proofs.Math.IntN.{ℤ, pos, ◌+ℤ◌, ◌*ℤ◌, *ℤ_comm}
 use Rattle.int_vectors.specs.Vectors.{IsZero, add, sub, scale, comb, at}
-use Rattle.int_vectors.proofs.Entries.{at-scale, at-add, zero_from}
+use Rattle.int_vectors.proofs.Entries.{at-scale, at-add, zero_from, at-zero}
 use Rattle.cayley.specs.Times.{Time, time_zero}
 use Rattle.cayley.specs.Problems.{Point, Problem, point_at, unperturbed}
-use Rattle.cayley.specs.Cells.{Cell, EachPair}
+use Rattle.cayley.specs.Cells.{Cell}
 use Rattle.cayley.specs.Normals.{Normal, height, gap}
-use Rattle.cayley.proofs.Algebra.RowNormals.{at-zero}
 use Rattle.cayley.proofs.Order.Lines.{Line, line_at}
 use Rattle.cayley.proofs.OneCell.MovingNormals.{Moving, moving, wall, moving_gap, IsFrame}
+use Rattle.cayley.proofs.Lists.Pairs.{pairs_both}
 use Rattle.inner_normal.specs.MovingNormals.{IsAt, IsMovingNormal}
 use Rattle.inner_normal.specs.declared.moving.MovingNormal.{MovingNormal}
 
@@ -55,13 +55,6 @@ module _ (m : MovingNormal) (positive : pos 0 <ℤ m.den) (long : length m.p ≡
   pair_flat v w h k x y z u =
       flat_line (wall (as_moving m positive long) x y) (line_zero time_zero refl v h x y z) (line_zero time_one refl w k x y u)
 
-two_pairs : (P Q R : List Point → ℕ → ℕ → Type 0) → ((s : List Point) (a b : ℕ) → P s a b → Q s a b → R s a b) → (supports : List (List Point)) (cell : Cell)
-    → EachPair supports cell P → EachPair supports cell Q → EachPair supports cell R
-two_pairs P Q R f [] [] g h = tt
-two_pairs P Q R f [] (x ∷ cell) g h = g
-two_pairs P Q R f (s ∷ supports) [] g h = g
-two_pairs P Q R f (s ∷ supports) (x ∷ cell) g h = (f s x.0 x.1 g.0 h.0, two_pairs P Q R f supports cell g.1 h.1)
-
 pub long_normal : (p : Problem) (cell : Cell) (m : MovingNormal) → IsMovingNormal p cell m → length m.p ≡ length m.q
 long_normal p cell m n = n.long.0 ∙ sym n.long.1
 
@@ -71,7 +64,5 @@ moving_frame p cell m n =
     let v = n.whole time_zero in
     let w = n.whole time_one in (
       n.long.0,
-      two_pairs (λ s a b. IsZero (gap time_zero v.0 (point_at s a) (point_at s b))) (λ s a b. IsZero (gap time_one w.0 (point_at s a) (point_at s b))) _
-          (λ s a b g h. pair_flat m n.positive (long_normal p cell m n) v.0 w.0 v.1 w.1 (point_at s a) (point_at s b) g h)
-          (unperturbed p).supports cell v.2.1 w.2.1,
+      pairs_both (unperturbed p).supports cell (λ s a b. IsZero (gap time_zero v.0 (point_at s a) (point_at s b))) (λ s a b. IsZero (gap time_one w.0 (point_at s a) (point_at s b))) _ (λ s a b g h. pair_flat m n.positive (long_normal p cell m n) v.0 w.0 v.1 w.1 (point_at s a) (point_at s b) g h) v.2.1 w.2.1,
     )

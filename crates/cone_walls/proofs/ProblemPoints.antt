@@ -4,7 +4,7 @@ use Rattle.int_vectors.specs.Vectors.{Each}
 use Rattle.cayley.specs.Problems.{Point, Problem, point_at, with_rank}
 use Rattle.cayley.specs.Valid.{IsValidProblem, IsCornerCoordinate, support_at}
 use Rattle.cayley.proofs.OneCell.CellRows.{each_position}
-use Rattle.cayley.proofs.Lists.Each.{all_each}
+use Rattle.int_vectors.proofs.Each.{all_each}
 use Rattle.cayley.proofs.Lists.Supports.{valid_points}
 
 abbrev pub IsNear : ℕ → Point → Type 0

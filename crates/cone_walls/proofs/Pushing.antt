@@ -7,6 +7,7 @@ use Rattle.reduced_rows.specs.Refusals.{IsFromFault}
 use Rattle.cayley.specs.Problems.{Point, Problem, origin, point_at}
 use Rattle.cayley.specs.Cells.{Cell, EachPair, IsOf}
 use Rattle.cayley.specs.Valid.{IsValidProblem, support_at}
+use Rattle.cayley.proofs.Lists.Pairs.{pairs_long}
 use Rattle.crossing.specs.declared.line.WallLine.{WallLine}
 use Rattle.inner_normal.specs.declared.moving.MovingNormal.{MovingNormal}
 use Rattle.cone_walls.specs.Listed.{line_of, one_line, lines_from, support_lines, wall_lines}
@@ -15,10 +16,6 @@ use Rattle.cone_walls.specs.Workings.{FitsSupport, FitsWalls}
 pub all_one : {A : Type 0} (P : A → Type 0) (x : A) → P x → All P (x ∷ [])
 all_one P x h zero d l = h
 all_one P x h (suc k) d l = absurd (omega arith)
-
-pub fault_by : (F G : Type 0) → (G → F) → (fault : FromFault) → IsFromFault F fault → IsFromFault G fault
-fault_by F G f Overflow n = λ g. n (f g)
-fault_by F G f OutOfMemory n = tt
 
 -- ---- one support
 split : (t u : Bool) (l : WallLine) (rest : List WallLine) → (if t then rest else if u then rest else l ∷ rest) ≡ (if t then [] else if u then [] else l ∷ []) ++ rest
@@ -54,12 +51,6 @@ pair_of P [] (x ∷ cell) k e h = absurd e
 pair_of P (s ∷ supports) [] k e h = absurd e
 pair_of P (s ∷ supports) (x ∷ cell) zero e h = (omega arith, e.0)
 pair_of P (s ∷ supports) (x ∷ cell) (suc k) e h = let r = pair_of P supports cell k e.1 (omega arith) in (omega (arith, r.0), r.1)
-
-pub same_count : (P : List Point → ℕ → ℕ → Type 0) (supports : List (List Point)) (cell : Cell) → EachPair supports cell P → length supports ≡ length cell
-same_count P [] [] e = refl
-same_count P [] (x ∷ cell) e = absurd e
-same_count P (s ∷ supports) [] e = absurd e
-same_count P (s ∷ supports) (x ∷ cell) e = ap suc (same_count P supports cell e.1)
 
 pub support_inside : (p : Problem) (cell pairs : Cell) → pairs ≡ cell → IsOf p cell → (k : ℕ) → k < length pairs → IsValidProblem p → k + 1 ≤ p.dimension
 support_inside p cell pairs same of k l valid =
@@ -121,12 +112,12 @@ module _ (m : MovingNormal) (p : Problem) (cell pairs : Cell) (same : pairs ≡ 
 
 pub no_supports : (m : MovingNormal) (p : Problem) (cell : Cell) (k : ℕ) → IsOf p cell → length cell ≤ k → (FitsWalls p cell m ↔ EachPair (drop k p.supports) (drop k cell) (FitsSupport m)) → FitsWalls p cell m
 no_supports m p cell k of l r =
-    let e = same_count _ p.supports cell of in
+    let e = pairs_long p.supports cell _ of in
     let h : length p.supports ≤ k = omega (arith, e, l) in
     r.1 (rw (drop_of_length-le p.supports h, drop_of_length-le cell l) tt)
 
 pub last_support : (m : MovingNormal) (p : Problem) (cell : Cell) (k : ℕ) (old all : List WallLine) → IsOf p cell → length cell ≤ k → old ++ wall_lines m (k + 1) (drop k p.supports) (drop k cell) ≡ all → old ≡ all
 last_support m p cell k old all of l f =
-    let e = same_count _ p.supports cell of in
+    let e = pairs_long p.supports cell _ of in
     let h : length p.supports ≤ k = omega (arith, e, l) in
     sym (append-nil old) ∙ ap (λ (ss : List (List Point)). old ++ wall_lines m (k + 1) ss (drop k cell)) (sym (drop_of_length-le p.supports h)) ∙ f

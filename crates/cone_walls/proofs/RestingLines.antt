@@ -11,9 +11,10 @@ use Rattle.cayley.specs.Dependencies.{pair_at, IsFurtherAt, nth_support}
 use Rattle.cayley.specs.Valid.{IsValidProblem}
 use Rattle.cayley.specs.Valid as valid
 use Rattle.cayley.proofs.Algebra.ScaledInverse.{dot-zero}
-use Rattle.cayley.proofs.Flipping.Places.{pairs_long, further_bound}
-use Rattle.cayley.proofs.Lists.Each.{all_each, each_append, each_weaker}
+use Rattle.cayley.proofs.Flipping.Places.{further_bound}
+use Rattle.int_vectors.proofs.Each.{all_each, each_append, each_weaker}
 use Rattle.cayley.proofs.OneCell.CellRows.{InRange, each_position}
+use Rattle.cayley.proofs.Lists.Pairs.{pairs_long}
 use Rattle.crossing.specs.declared.line.WallLine.{WallLine}
 use Rattle.crossing.specs.declared.leaders.Way.TheVariants.{Falling}
 use Rattle.crossing.specs.Leading.{Goes, nth}

@@ -4,7 +4,7 @@ use Rattle.std.proofs.lemmas.Bool.{eq-eqb, eqb-true}
 use Rattle.std.specs.Prelude.{slice_index_or}
 use Rattle.cayley.specs.Problems.{Version, Point, Problem, origin, EachSupport, HasCorners, with_rank, is_start_corner, numbered, numbered_supports, ranks_in, ranked_supports, HasRanks}
 use Rattle.cayley.specs.Problems.Version.{version1, version2}
-use Rattle.cayley.proofs.OneCell.Unperturbed.{unranked}
+use Rattle.cayley.proofs.Ranking.Unperturbed.{unranked}
 
 -- the rank at an index, which counts from 0
 abbrev pub rank_at : List Point → ℕ → ℕ

@@ -10,7 +10,7 @@ use Rattle.cayley.specs.Problems.{Point, Problem, EachSupport, point_at, with_ra
 use Rattle.cayley.specs.Valid.{IsValidProblem, IsCornerCoordinate, IsHeight, IsWithinProblem, IsWithinCorners, IsCornerBase, support_at}
 use Rattle.cayley.specs.Reaches.{IsWithinReach}
 use Rattle.cayley.proofs.OneCell.CellRows.{each_position}
-use Rattle.cayley.proofs.Lists.Each.{all_each, each_append, each_weaker}
+use Rattle.int_vectors.proofs.Each.{all_each, each_append, each_weaker}
 use Rattle.inner_normal.specs.declared.moving.MovingNormal.{MovingNormal}
 use Rattle.cone_walls.specs.Rooms.{IsSpeed, IsNarrowRoom, IsWideRoom, HasRoom, IsRoomOf, IsRoomAt, IsNarrowOf}
 use Rattle.cone_walls.specs.declared.rooms.Room.TheVariants as room

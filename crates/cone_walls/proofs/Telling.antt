@@ -4,7 +4,7 @@ use Rattle.std.proofs.lemmas.Int.{ints}
 use Rattle.std.proofs.Math.IntN.{ℤ, pos, ◌+ℤ◌, ◌*ℤ◌, neg_ℤ}
 use Rattle.wide_int.proofs.Order.{mul_cancel}
 use Rattle.int_vectors.specs.Vectors.{Each, IsZero, IsPositive, scale, at}
-use Rattle.int_vectors.proofs.Entries.{at-scale, zero_from}
+use Rattle.int_vectors.proofs.Entries.{at-scale, zero_from, at-zero}
 use Rattle.reduced_rows.specs.CellRefusals.{IsEliminated}
 use Rattle.lex_height.specs.Entries.{entry}
 use Rattle.lex_height.specs.Values.{AreParts}
@@ -14,16 +14,16 @@ use Rattle.cayley.specs.Cells.{Cell}
 use Rattle.cayley.specs.Rows.{edge_rows}
 use Rattle.cayley.specs.Dependencies.{Numbers, pair_at, IsFurtherAt, IsPositiveDependency, sum_at, minus, nth_support}
 use Rattle.cayley.specs.Normals.{Normal, gap, IsNormal, IsAbove, IsLevel, IsBelow}
-use Rattle.cayley.proofs.Algebra.RowNormals.{at-zero}
 use Rattle.cayley.proofs.Order.Lexicographic.{positive-same}
 use Rattle.cayley.proofs.Order.Lines.{Line, line_at}
-use Rattle.cayley.proofs.Lists.Each.{each_weaker, each_both, each_map, each_unmap}
+use Rattle.int_vectors.proofs.Each.{each_weaker, each_both, each_map, each_unmap}
 use Rattle.cayley.proofs.OneCell.CellRows.{InRange}
 use Rattle.cayley.proofs.OneCell.MovingNormals.{wall}
 use Rattle.cayley.proofs.OneCell.MovingWalls.{wall_is}
 use Rattle.cayley.proofs.OneCell.OneDependency.{sum_gap, dependency_law}
-use Rattle.cayley.proofs.OneCell.Unperturbed.{point_unranked, support_unranked, same_unperturbed, same_well, same_of, same_independent, same_further}
-use Rattle.cayley.proofs.Flipping.Places.{pairs_long, further_bound}
+use Rattle.cayley.proofs.Ranking.Unperturbed.{point_unranked, support_unranked, same_unperturbed, same_well, same_of, same_independent, same_further}
+use Rattle.cayley.proofs.Flipping.Places.{further_bound}
+use Rattle.cayley.proofs.Lists.Pairs.{pairs_long}
 use Rattle.crossing.specs.declared.line.WallLine.{WallLine}
 use Rattle.crossing.specs.Lines.{value}
 use Rattle.inner_normal.specs.Coefficients.{difference, products, coefficients_of, numbers_of}

@@ -1,10 +1,10 @@
 -- lists of entries, and their entries by rank
-use Rattle.std.proofs.Common.{◌≡◌, ◌⊎◌, inl, inr, ℕ, zero, suc, ◌<◌, List, [], ◌∷◌, length, arith, refl, ap₂, ◌∙◌, ◌<ℤ◌}
+use Rattle.std.proofs.Common.{◌≡◌, ◌⊎◌, inl, inr, ℕ, zero, suc, ◌<◌, List, [], ◌∷◌, length, arith, ap₂, ◌∙◌, ◌<ℤ◌}
 use Rattle.std.proofs.lemmas.Int.{ints}
 use Rattle.std.proofs.Math.IntN.{ℤ, pos, neg_ℤ, ◌+ℤ◌, ◌-ℤ◌, ◌*ℤ◌}
 use Rattle.wide_int.proofs.Ring.{as_D, Ds, same_D}
 use Rattle.wide_int.proofs.Order.{sign_cases}
-use Rattle.int_vectors.specs.Vectors.{IsZero, IsPositive, scale, add, at}
+use Rattle.int_vectors.specs.Vectors.{IsPositive, scale, add, at}
 use Rattle.int_vectors.proofs.Entries.{at-scale, at-add}
 use Rattle.lex_height.specs.Order.{IsLess, IsSame}
 use Rattle.lex_height.specs.Order as order
@@ -15,10 +15,6 @@ pub at-sum : (j k : ℤ) (u v : List ℤ) (i : ℕ) → at (add (scale j u) (sca
 at-sum j k u v i = at-add (scale j u) (scale k v) i ∙ ap₂ ◌+ℤ◌ (at-scale j u i) (at-scale k v i)
 
 -- ---- zero and positive
-pub zero_at : (u : List ℤ) → IsZero u → (k : ℕ) → at u k ≡ pos 0
-zero_at [] z k = refl
-zero_at (x ∷ u) z zero = z.0
-zero_at (x ∷ u) z (suc k) = zero_at u z.1 k
 
 pub positive_at : (u : List ℤ) → IsPositive u → order.IsPositive (at u)
 positive_at [] p = absurd p

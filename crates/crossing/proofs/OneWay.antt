@@ -4,7 +4,7 @@ use Rattle.std.proofs.lemmas.Int.{ints}
 use Rattle.wide_int.proofs.Ring.{zero_mul_ℤ}
 use Rattle.wide_int.proofs.Order.{mul_cancel}
 use Rattle.int_vectors.specs.Vectors.{IsZero, IsPositive, at}
-use Rattle.int_vectors.proofs.Entries.{zero_from}
+use Rattle.int_vectors.proofs.Entries.{zero_from, at-zero}
 use Rattle.lex_height.specs.Entries.{entries}
 use Rattle.lex_height.specs.Values as lex
 use Rattle.lex_height.specs.Order.{IsLess, IsSame}
@@ -18,7 +18,7 @@ use Rattle.crossing.specs.Lines.{constant, value, IsFlat, IsZeroAt}
 use Rattle.crossing.specs.Leading.{steep, start, Goes, IsLed, nth, first_of}
 use Rattle.crossing.specs.Ends.{led_by, IsSunk}
 use Rattle.crossing.specs.Ties.{IsNotNegative}
-use Rattle.crossing.proofs.Lists.{zero_at, positive_at, positive_from, either}
+use Rattle.crossing.proofs.Lists.{positive_at, positive_from, either}
 use Rattle.crossing.proofs.Values.{turn, value_at, value_is, zero_ratio, ratio_zero, positive_ratio, double_neg, level_start, level_value}
 use Rattle.crossing.proofs.Found.{first_goes, none_before}
 
@@ -50,7 +50,7 @@ module _ (y : WallLine) (level : y.beta ≡ pos 0) (t : List ℤ) (q : ℤ) (pq 
       without b p a x e = let f : b *ℤ x ≡ pos 0 = rw e (omega (arith, ints)) in omega (arith, ints, f)
 
   zero_start : IsZero (value y t q) → (k : ℕ) → start y k ≡ pos 0
-  zero_start z k = cancel q (start y k) pq (sym (level_product t q k) ∙ zero_at (value y t q) z k)
+  zero_start z k = cancel q (start y k) pq (sym (level_product t q k) ∙ at-zero (value y t q) k z)
     where
       cancel : (q a : ℤ) → pos 0 <ℤ q → q *ℤ a ≡ pos 0 → a ≡ pos 0
       cancel q a pq e = mul_cancel a (pos 0) q (λ z. omega (arith, ints, z, pq)) (turned a q ∙ e ∙ sym (zero_mul_ℤ q))
@@ -94,7 +94,7 @@ module _ (y : WallLine) (level : y.beta ≡ pos 0) (t : List ℤ) (q : ℤ) (pq 
       | inr m ↦ absurd (n (
         level,
         (λ p. not_both (at (value y t q)) (positive_at (value y t q) (level_value y level t q pq p)) m),
-        λ f. none (at (value y t q)) (zero_at (value y t q) (f t q pq)) m,
+        λ f. none (at (value y t q)) (λ k. at-zero (value y t q) k (f t q pq)) m,
       ))
     ]
   ]

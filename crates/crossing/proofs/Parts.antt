@@ -8,6 +8,7 @@ use Rattle.std.specs.Ordering.{MatchOrdering}
 use Rattle.wide_int.specs.Whole.{FitsWhole}
 use Rattle.wide_int.proofs.Signed.{neg_fits}
 use Rattle.int_vectors.specs.Vectors.{IsZero, IsPositive, at}
+use Rattle.int_vectors.proofs.Entries.{at-zero}
 use Rattle.lex_height.specs.declared.part.LexPart.{LexPart}
 use Rattle.lex_height.specs.Entries.{entry, entries_from, entries, at_rank}
 use Rattle.lex_height.specs.Order.{IsLess, IsSame}
@@ -22,7 +23,6 @@ use Rattle.crossing.specs.Lines.{FitsLine, value, IsFlat, IsZeroAt}
 use Rattle.crossing.specs.Leading.{steep, start, Goes, IsBefore, IsEven}
 use Rattle.crossing.specs.Found.{RisesFirst, RisesWith, FallsFirst}
 use Rattle.crossing.specs.Zeros.{turned_by, turned_part, first_part, zero_numbers}
-use Rattle.crossing.proofs.Lists.{zero_at}
 use Rattle.crossing.proofs.Values.{value_at, ratio_zero}
 
 -- ---- the entries past rank 0
@@ -125,7 +125,7 @@ flat_parts line h f = (first, second, none line.fine h (λ k. zeros (suc k)))
     here a b e = omega (arith, ints, e)
 
     zeros : (k : ℕ) → start line k ≡ pos 0
-    zeros k = here (start line k) line.beta (sym (value_at line [] (pos 1) k) ∙ zero_at (value line [] (pos 1)) (f [] (pos 1) (omega (arith, ints))) k)
+    zeros k = here (start line k) line.beta (sym (value_at line [] (pos 1) k) ∙ at-zero (value line [] (pos 1)) k (f [] (pos 1) (omega (arith, ints))))
 
     first : line.alpha ≡ pos 0
     first = zeros 0
@@ -134,7 +134,7 @@ flat_parts line h f = (first, second, none line.fine h (λ k. zeros (suc k)))
     there a b z e = omega (arith, ints, z, e)
 
     second : line.beta ≡ pos 0
-    second = there line.alpha line.beta first (sym (value_at line (pos 1 ∷ []) (pos 1) 0) ∙ zero_at (value line (pos 1 ∷ []) (pos 1)) (f (pos 1 ∷ []) (pos 1) (omega (arith, ints))) 0)
+    second = there line.alpha line.beta first (sym (value_at line (pos 1 ∷ []) (pos 1) 0) ∙ at-zero (value line (pos 1 ∷ []) (pos 1)) 0 (f (pos 1 ∷ []) (pos 1) (omega (arith, ints))))
 
     past : (n : ℕ) (x : ℤ) (rest : List ℤ) → at (replicate n (pos 0) ++ x ∷ rest) n ≡ x
     past zero x rest = refl

@@ -5,7 +5,7 @@ use Rattle.std.proofs.Math.IntN.{*ℤ_comm}
 use Rattle.wide_int.proofs.Ring.{as_D, Ds, same_D, zero_mul_ℤ}
 use Rattle.wide_int.proofs.Order.{lt_cancel, mul_cancel, mul_pos_ℤ}
 use Rattle.int_vectors.specs.Vectors.{IsZero, IsPositive, at}
-use Rattle.int_vectors.proofs.Entries.{zero_from}
+use Rattle.int_vectors.proofs.Entries.{zero_from, at-zero}
 use Rattle.lex_height.specs.Order.{IsLess, IsSame}
 use Rattle.lex_height.proofs.Comparing.{less_less, less_same, same_less, same_same, same_back, not_below_itself, less_turned, less_as}
 use Rattle.crossing.specs.declared.line.WallLine.{WallLine}
@@ -13,7 +13,7 @@ use Rattle.crossing.specs.declared.leaders.Way.{Way}
 use Rattle.crossing.specs.declared.leaders.Way.TheVariants.{Falling, Rising}
 use Rattle.crossing.specs.Lines.{constant, value}
 use Rattle.crossing.specs.Leading.{steep, start, Goes, IsBefore, IsEven}
-use Rattle.crossing.proofs.Lists.{at-sum, zero_at, positive_at, positive_from, either}
+use Rattle.crossing.proofs.Lists.{at-sum, positive_at, positive_from, either}
 
 -- ---- lines of one way
 -- a time as it runs on this way
@@ -37,7 +37,7 @@ value_is Rising line t q k = value_at line t q k ∙ rising_ring (start line k) 
 module _ (way : Way) (line : WallLine) (t : List ℤ) (q : ℤ) where
   -- zero at t / q: the time is the start over the steepness
   pub zero_ratio : IsZero (value line t q) → IsSame (turn way (at t)) q (start line) (steep way line)
-  zero_ratio z k = let e = zero_at (value line t q) z k in let v = value_is way line t q k in omega (arith, ints, e, v)
+  zero_ratio z k = let e = at-zero (value line t q) k z in let v = value_is way line t q k in omega (arith, ints, e, v)
 
   pub ratio_zero : IsSame (turn way (at t)) q (start line) (steep way line) → IsZero (value line t q)
   ratio_zero h = zero_from (value line t q) (λ k. let e = h k in let v = value_is way line t q k in omega (arith, ints, e, v))

@@ -8,7 +8,7 @@ use Rattle.std.proofs.lemmas.List.FromFn.{length-map-range_with_len, get_or-map-
 use Rattle.std.proofs.lemmas.List.{length-append}
 use Rattle.int_vectors.specs.Vectors.{Each}
 use Rattle.cayley.specs.Valid.{AreDistinct, IsCoordinate}
-use Rattle.cayley.proofs.Lists.Each.{each_append}
+use Rattle.int_vectors.proofs.Each.{each_append}
 use Rattle.family_gen.specs.Cyclic.{entry_of, window, windows, last_support, cyclic_supports}
 use Rattle.family_gen.proofs.ValidLifts.{IsSupport}
 

@@ -5,7 +5,7 @@ use Rattle.int_vectors.specs.Vectors.{Each}
 use Rattle.cayley.specs.declared.points.FilePoint.{FilePoint as StoredFilePoint}
 use Rattle.cayley.specs.Stored.{file_point}
 use Rattle.cayley.specs.Files.{FilePoint}
-use Rattle.cayley.proofs.Lists.Each.{map_map}
+use Rattle.int_vectors.proofs.Each.{map_map}
 use Rattle.cayley.specs.Valid.{AreDistinct, IsCoordinate, IsWithinFile, IsValidFile}
 use Rattle.family_gen.specs.Lifts.{lifted, lifted_supports, lift_file}
 use Rattle.family_gen.proofs.LiftedPoints.{height_fits}

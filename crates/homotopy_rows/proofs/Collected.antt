@@ -5,7 +5,7 @@ use Rattle.std.proofs.lemmas.List.{length-map, take_more, append_assoc, get_or-m
 use Rattle.cayley.specs.Cells.{Cell}
 use Rattle.cayley.specs.Problems.{Point, origin, point_at, with_rank}
 use Rattle.cayley.specs.Resting.{rise}
-use Rattle.cayley.proofs.OneCell.Unperturbed.{unranked, point_unranked}
+use Rattle.cayley.proofs.Ranking.Unperturbed.{unranked, point_unranked}
 use Rattle.homotopy_rows.specs.Flat.{SomePair, IsFlatAt}
 use Rattle.homotopy_rows.specs.Points.{IsTieAt}
 use Rattle.homotopy_rows.specs.Powers.{sums_over, sums}

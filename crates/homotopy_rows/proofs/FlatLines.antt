@@ -8,7 +8,7 @@ use Rattle.cayley.specs.Cells.{Cell, EachPair}
 use Rattle.cayley.specs.Files.{File, plain_problem}
 use Rattle.cayley.specs.Problems.{Version, version1, version2, Point, Problem}
 use Rattle.cayley.specs.Valid.{IsValidFile, IsValidProblem}
-use Rattle.cayley.proofs.OneCell.PlainProblems.{plain_valid}
+use Rattle.cayley.proofs.Ranking.PlainProblems.{plain_valid}
 use Rattle.listing_text.specs.declared.listing.Listing.{Listing}
 use Rattle.listing_text.specs.declared.listing.ListedCell.{ListedCell}
 use Rattle.cell_certificate.specs.Judgements.{AllPass, HasLeast}

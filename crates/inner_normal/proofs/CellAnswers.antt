@@ -17,11 +17,11 @@ use Rattle.cayley.specs.Problems.{Problem, IsProblem, HasSamePoints}
 use Rattle.cayley.specs.Cells.{Cell, IsOf, IsIndependent, IsCellKernel}
 use Rattle.cayley.specs.Rows.{edge_rows}
 use Rattle.cayley.proofs.OneCell.CellRows.{pairs_from_rows, rows_width, rows_independent}
-use Rattle.cayley.proofs.OneCell.Unperturbed.{same_rows, same_dimension, same_well, same_of}
+use Rattle.cayley.proofs.Ranking.Unperturbed.{same_rows, same_dimension, same_well, same_of}
 use Rattle.inner_normal.specs.declared.moving.MovingNormal.{MovingNormal}
 use Rattle.inner_normal.specs.MovingNormals.{IsMovingNormal}
 use Rattle.inner_normal.specs.Workings.{HaveWidths, FitsNormal, IsNormalFrom, FitsNormalWorking, IsNormalOfRows}
-use Rattle.inner_normal.proofs.Faults.{fault_other, cell_fault_other}
+use Rattle.inner_normal.proofs.Faults.{cell_fault_other}
 use Rattle.inner_normal.proofs.Meaning.{reduced_of}
 
 pub rows_lengths : (p : Problem) (cell : Cell) → IsProblem p → IsOf p cell → (m : ℕ) × (p.dimension ≤ m) × OfLength m (edge_rows p cell)

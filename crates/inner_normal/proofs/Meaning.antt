@@ -14,7 +14,7 @@ use Rattle.cayley.specs.Rows.{edge_rows}
 use Rattle.cayley.specs.Dependencies.{pair_at, IsFurtherAt, IsPositiveDependency, nth_support}
 use Rattle.cayley.proofs.OneCell.CellRows.{InRange, each_position, long_sub, rows_count, rows_width}
 use Rattle.cayley.proofs.OneCell.OneDependency.{pairs_from, numbers_of_rows}
-use Rattle.cayley.proofs.OneCell.Unperturbed.{point_unranked, support_unranked, same_rows, same_dimension, same_points, same_of, same_well, same_further}
+use Rattle.cayley.proofs.Ranking.Unperturbed.{point_unranked, support_unranked, same_rows, same_dimension, same_points, same_of, same_well, same_further}
 use Rattle.inner_normal.specs.Inverses.{Inverse, inverse_of, scaled_columns, IsInverseOf}
 use Rattle.inner_normal.specs.Coefficients.{difference, products, coefficients_of, numbers_of, pairs_of, last_of}
 use Rattle.inner_normal.proofs.PairNumbers.{last-coefficients, length-coefficients, pairs-coefficients}

@@ -4,7 +4,7 @@ use Rattle.std.proofs.lemmas.List.{length-map}
 use Rattle.std.proofs.Math.IntN.{ℤ, pos, ◌+ℤ◌, ◌-ℤ◌, ◌*ℤ◌, neg_ℤ, *ℤ-zero, *ℤ_comm}
 use Rattle.wide_int.proofs.Ring.{as_D, Ds, same_D}
 use Rattle.int_vectors.specs.Vectors.{IsZero, add, sub, scale, dot, at, entries_at}
-use Rattle.int_vectors.proofs.Entries.{length-scale, at-scale, at-add}
+use Rattle.int_vectors.proofs.Entries.{length-scale, at-scale, at-add, at-zero}
 use Rattle.cayley.specs.Times.{Time}
 use Rattle.cayley.specs.Problems.{Point, Problem, IsProblem, point_at, with_rank, unperturbed}
 use Rattle.cayley.specs.Cells.{Cell, EachPair, IsOf, IsIndependent}
@@ -12,11 +12,11 @@ use Rattle.cayley.specs.Normals.{Normal, height, gap, IsNormal}
 use Rattle.cayley.specs.Mixed.{HasFirstEntries}
 use Rattle.cayley.proofs.Order.Lexicographic.{minus_one}
 use Rattle.cayley.proofs.Algebra.ScaledInverse.{dot-add, dot-scale}
-use Rattle.cayley.proofs.Algebra.RowNormals.{gap-at, at-zero}
+use Rattle.cayley.proofs.Algebra.RowNormals.{gap-at}
 use Rattle.cayley.proofs.OneCell.CellNormals.{same_long}
 use Rattle.cayley.proofs.OneCell.OneNormal.{same_values, same_lists}
 use Rattle.cayley.proofs.OneCell.MovingNormals.{Moving, moving, wall, IsFrame, moving_normal}
-use Rattle.cayley.proofs.OneCell.Unperturbed.{same_unperturbed, same_well, same_of, same_independent, each_pair_unranked, point_unranked}
+use Rattle.cayley.proofs.Ranking.Unperturbed.{same_unperturbed, same_well, same_of, same_independent, each_pair_unranked, point_unranked}
 use Rattle.cayley.proofs.Life.Targets.{height-first}
 use Rattle.inner_normal.specs.declared.moving.MovingNormal.{MovingNormal}
 use Rattle.inner_normal.specs.MovingNormals.{numerators, IsMovingNormal}

@@ -1,5 +1,5 @@
 -- points and pairs by their places
-use Rattle.std.proofs.Common.{◌≡◌, ℕ, zero, suc, ◌<◌, ◌≤◌, List, [], ◌∷◌, length, arith, refl, ap}
+use Rattle.std.proofs.Common.{◌≡◌, ℕ, zero, suc, ◌<◌, ◌≤◌, List, [], ◌∷◌, length, arith, refl, sym}
 use Rattle.std.specs.Prelude.{slice_index_or}
 use Rattle.int_vectors.specs.Vectors.{Each}
 use Rattle.cayley.specs.Problems.{Point, Problem, point_at}
@@ -8,6 +8,7 @@ use Rattle.cayley.specs.Dependencies.{pair_at, nth_support}
 use Rattle.cayley.specs.Valid.{IsValidProblem, IsCornerCoordinate}
 use Rattle.cayley.proofs.OneCell.CellRows.{InRange, each_position}
 use Rattle.cayley.proofs.Lists.Supports.{valid_points}
+use Rattle.cayley.proofs.Lists.Pairs.{pairs_long}
 
 pub support_read : (supports : List (List Point)) (j : ℕ) → slice_index_or supports j [] ≡ nth_support supports j
 support_read [] j = refl
@@ -20,10 +21,7 @@ pair_read (x ∷ cell) zero d l = refl
 pair_read (x ∷ cell) (suc j) d l = pair_read cell j d (omega (arith, l))
 
 pub cell_long : (supports : List (List Point)) (cell : Cell) (P : List Point → ℕ → ℕ → Type 0) → EachPair supports cell P → length cell ≡ length supports
-cell_long [] [] P e = refl
-cell_long [] (x ∷ cell) P e = absurd e
-cell_long (s ∷ supports) [] P e = absurd e
-cell_long (s ∷ supports) (x ∷ cell) P e = ap suc (cell_long supports cell P e.1)
+cell_long supports cell P e = sym (pairs_long supports cell P e)
 
 -- the pair of a support is in its range
 pub pair_range : (supports : List (List Point)) (cell : Cell) (j : ℕ) → j < length cell → EachPair supports cell InRange → InRange (nth_support supports j) (pair_at cell j).0 (pair_at cell j).1

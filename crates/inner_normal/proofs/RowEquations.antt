@@ -10,12 +10,12 @@ use Rattle.reduced_rows.specs.Steps.{OfLength}
 use Rattle.reduced_rows.proofs.Orthogonal.{length-shares}
 use Rattle.reduced_rows.proofs.Outcome.{reduced_means}
 use Rattle.reduced_rows.proofs.Solving.{column_solves}
+use Rattle.reduced_rows.proofs.Run.{each_longer}
 use Rattle.cayley.specs.Problems.{Problem, IsProblem, point_at}
 use Rattle.cayley.specs.Cells.{Cell, EachPair, IsOf}
 use Rattle.cayley.specs.Rows.{edge_rows}
 use Rattle.cayley.proofs.OneCell.CellRows.{pairs_orthogonal, rows_independent, rows_count, rows_width}
-use Rattle.cayley.proofs.Order.Soon.{each_pair-map}
-use Rattle.cayley.proofs.Flipping.FlipNeighbours.{both_pairs}
+use Rattle.cayley.proofs.Lists.Pairs.{pairs_map, pairs_together}
 use Rattle.inner_normal.specs.declared.moving.MovingNormal.{MovingNormal}
 use Rattle.inner_normal.specs.MovingNormals.{IsMovingNormal}
 use Rattle.inner_normal.specs.Workings.{denominator, IsNormalFrom}
@@ -24,10 +24,6 @@ use Rattle.inner_normal.proofs.PairEquations.{difference, moving_of}
 append_assoc : (xs ys zs : List ℤ) → (xs ++ ys) ++ zs ≡ xs ++ (ys ++ zs)
 append_assoc [] ys zs = refl
 append_assoc (x ∷ xs) ys zs = ap (λ l. x ∷ l) (append_assoc xs ys zs)
-
-each_longer : (k m : ℕ) (rows : List (List ℤ)) → k < m → OfLength m rows → Each rows (λ row. k < length row)
-each_longer k m [] h e = tt
-each_longer k m (row ∷ rows) h e = (let f = e.0 in omega (arith, h, f), each_longer k m rows h e.1)
 
 module _ (p : Problem) (cell : Cell) (well : IsProblem p) (of : IsOf p cell) (made : List (List ℤ)) (eliminated : IsEliminated p.dimension (edge_rows p cell) made) where
   pub reduced_of : IsReducedOf p.dimension (edge_rows p cell) made
@@ -38,10 +34,10 @@ module _ (p : Problem) (cell : Cell) (well : IsProblem p) (of : IsOf p cell) (ma
 
   -- both columns are there
   pub resting_inside : Each made (λ row. length made < length row)
-  resting_inside = let e = reduced_of.count in each_longer (length made) (p.dimension + suc (suc p.dimension)) made (omega (arith, e)) widths
+  resting_inside = let e = reduced_of.count in each_longer (p.dimension + suc (suc p.dimension)) (length made) made (omega (arith, e)) widths
 
   pub moving_inside : Each made (λ row. suc (length made) < length row)
-  moving_inside = let e = reduced_of.count in each_longer (suc (length made)) (p.dimension + suc (suc p.dimension)) made (omega (arith, e)) widths
+  moving_inside = let e = reduced_of.count in each_longer (p.dimension + suc (suc p.dimension)) (suc (length made)) made (omega (arith, e)) widths
 
   resting_solved : IsOrthogonal (edge_rows p cell) (shares p.dimension 0 (denominator made) made ++ (pos (denominator made) ∷ []))
   unfolding zeros
@@ -77,7 +73,7 @@ module _ (p : Problem) (cell : Cell) (well : IsProblem p) (of : IsOf p cell) (ma
 
     rest_levels : EachPair p.supports cell (λ s a b. dot (difference s a b) m.p +ℤ m.den *ℤ ((point_at s b).base -ℤ (point_at s a).base) ≡ pos 0)
     rest_levels =
-        each_pair-map p.supports cell _ _ (λ s a b h. ap (λ z. dot (difference s a b) m.p +ℤ z) (step m.den ((point_at s b).base -ℤ (point_at s a).base)) ∙ h)
+        pairs_map p.supports cell _ _ (λ s a b h. ap (λ z. dot (difference s a b) m.p +ℤ z) (step m.den ((point_at s b).base -ℤ (point_at s a).base)) ∙ h)
         (pairs_orthogonal p.dimension 0 p.supports cell m.p (m.den ∷ []) lp (omega arith) well.points of
         (subst₂ (λ x d. IsOrthogonal (edge_rows p cell) (x ++ (d ∷ []))) (sym p_is) (sym from.over) resting_solved))
       where
@@ -86,7 +82,7 @@ module _ (p : Problem) (cell : Cell) (well : IsProblem p) (of : IsOf p cell) (ma
 
     moving_levels : EachPair p.supports cell (λ s a b. dot (difference s a b) m.q +ℤ m.den *ℤ ((point_at s b).speed -ℤ (point_at s a).speed) ≡ pos 0)
     moving_levels =
-        each_pair-map p.supports cell _ _ (λ s a b h. ap (λ z. dot (difference s a b) m.q +ℤ z) (step m.den ((point_at s b).base -ℤ (point_at s a).base) ((point_at s b).speed -ℤ (point_at s a).speed)) ∙ h)
+        pairs_map p.supports cell _ _ (λ s a b h. ap (λ z. dot (difference s a b) m.q +ℤ z) (step m.den ((point_at s b).base -ℤ (point_at s a).base) ((point_at s b).speed -ℤ (point_at s a).speed)) ∙ h)
         (pairs_orthogonal p.dimension 0 p.supports cell m.q (pos 0 ∷ m.den ∷ []) lq (omega arith) well.points of
         (subst₂ (λ x d. IsOrthogonal (edge_rows p cell) (x ++ (pos 0 ∷ d ∷ []))) (sym q_is) (sym from.over) moving_solved))
       where
@@ -97,8 +93,7 @@ module _ (p : Problem) (cell : Cell) (well : IsProblem p) (of : IsOf p cell) (ma
     pub moving_from : pos 0 <ℤ m.den → IsMovingNormal p cell m
     moving_from positive =
         moving_of p cell well of (rows_independent p cell well of reduced_of.independent) m positive lp lq
-        (both_pairs (λ s a b. dot (difference s a b) m.p +ℤ m.den *ℤ ((point_at s b).base -ℤ (point_at s a).base) ≡ pos 0)
-        (λ s a b. dot (difference s a b) m.q +ℤ m.den *ℤ ((point_at s b).speed -ℤ (point_at s a).speed) ≡ pos 0) p.supports cell rest_levels moving_levels)
+        (pairs_together p.supports cell (λ s a b. dot (difference s a b) m.p +ℤ m.den *ℤ ((point_at s b).base -ℤ (point_at s a).base) ≡ pos 0) (λ s a b. dot (difference s a b) m.q +ℤ m.den *ℤ ((point_at s b).speed -ℤ (point_at s a).speed) ≡ pos 0) rest_levels moving_levels)
 
 -- the two solutions over the denominator are the numbers of the working
 pub from_solutions : (made : List (List ℤ)) (m : MovingNormal) (i j : ℕ) (den : ℤ) → i ≡ length made → j ≡ suc i → m.den ≡ den → den ≡ pos (denominator made)

@@ -69,3 +69,8 @@ entries_each (suc n) P h e lt = elim (cases_lt e n) [
   | inl b ↦ entries_each n P h.1 e b
   | inr b ↦ let same : n ≡ e = omega (arith, lt, b) in subst (λ (m : ℕ). P (λ x. at x m)) same h.0
 ]
+
+pub at-zero : (u : List ℤ) (k : ℕ) → IsZero u → at u k ≡ pos 0
+at-zero [] k z = refl
+at-zero (x ∷ u) zero z = z.0
+at-zero (x ∷ u) (suc k) z = at-zero u k z.1

@@ -11,3 +11,4 @@ pub mod InPlace
 pub mod TakingOff
 pub mod Weighing
 pub mod Entries
+pub mod Each

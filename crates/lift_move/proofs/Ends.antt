@@ -10,7 +10,7 @@ use Rattle.cayley.specs.Problems.{Point, Problem, EachSupport, HasNoCorners, Has
 use Rattle.cayley.specs.Cells.{Cell, EachPair, IsOf, IsFurther}
 use Rattle.cayley.specs.Normals.{Normal, mark, height, gap}
 use Rattle.cayley.specs.Mixed.{IsAlive, IsMixedCell}
-use Rattle.cayley.proofs.OneCell.PlainProblems.{whole_supports}
+use Rattle.cayley.proofs.Ranking.PlainProblems.{whole_supports}
 use Rattle.searcher.specs.Passes.{time_one}
 use Rattle.lift_move.specs.Segments.{arrived, end_of, departing, start_of}
 

@@ -12,7 +12,7 @@ use Rattle.cayley.specs.Cells.{Cell, IsListOf}
 use Rattle.cayley.specs.Mixed.{IsMixedCell}
 use Rattle.cayley.specs.TieProofs.{spot_of}
 use Rattle.cayley.proofs.Life.ShownTies.{shown_tie_law}
-use Rattle.cayley.proofs.Lists.Each.{each_append}
+use Rattle.int_vectors.proofs.Each.{each_append}
 use Rattle.cayley.proofs.Order.Lines.{before_trans}
 use Rattle.cayley.proofs.Order.Times.{never_before}
 use Rattle.cayley.proofs.Searching.Listing.{Has}

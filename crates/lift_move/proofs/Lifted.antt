@@ -11,9 +11,9 @@ use Rattle.cayley.specs.Shapes.{HasSecondHeights, AreSecondHeights}
 use Rattle.cayley.specs.Stored.{file_point}
 use Rattle.cayley.specs.Valid.{IsHeight, IsWithinFile, IsValidFile, AreDistinct}
 use Rattle.cayley.specs.declared.points.FilePoint.{FilePoint as StoredFilePoint}
-use Rattle.cayley.proofs.Lists.Each.{map_at, map_take}
-use Rattle.cayley.proofs.OneCell.PlainProblems.{any}
-use Rattle.cayley.proofs.OneCell.MovedProblems.{taken}
+use Rattle.int_vectors.proofs.Each.{map_at, map_take}
+use Rattle.cayley.proofs.Ranking.PlainProblems.{any}
+use Rattle.cayley.proofs.Ranking.MovedProblems.{taken}
 use Rattle.lift_move.specs.Segments.{arrived, end_of, departing, start_of, lifted, lifted_points, lifted_supports, second_of}
 
 -- ---- one more point, one more support

@@ -6,8 +6,8 @@ use Rattle.cayley.specs.Problems.{EachSupport, HasNoCorners, file_points}
 use Rattle.cayley.specs.Files.{FilePoint, File, moved_supports, plain_problem, between_problem}
 use Rattle.cayley.specs.Mixed.{IsAlive}
 use Rattle.cayley.specs.Shapes.{HasSecondHeights}
-use Rattle.cayley.proofs.OneCell.PlainProblems.{plain_valid}
-use Rattle.cayley.proofs.OneCell.MovedProblems.{length-moved}
+use Rattle.cayley.proofs.Ranking.PlainProblems.{plain_valid}
+use Rattle.cayley.proofs.Ranking.MovedProblems.{length-moved}
 use Rattle.lift_move.specs.Segments.{IsSegment, start_of, second_of}
 use Rattle.lift_move.specs.Laws.{StartLaw, EndLaw, CompleteLaw}
 use Rattle.lift_move.proofs.Ends.{alive_at_start, own_points, start_alone, mixed_at_end}

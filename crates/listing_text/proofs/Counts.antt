@@ -7,7 +7,7 @@ use Rattle.int_vectors.specs.Vectors.{Each}
 use Rattle.cayley.specs.declared.points.FilePoint.{FilePoint as StoredFilePoint}
 use Rattle.cayley.specs.Files.{FilePoint}
 use Rattle.cayley.specs.Stored.{file_point}
-use Rattle.cayley.proofs.Lists.Each.{all_each}
+use Rattle.int_vectors.proofs.Each.{all_each}
 
 abbrev IsCount : ℕ → Type 0
 IsCount m = (1 ≤ m) × (m ≤ 1000)

@@ -9,9 +9,9 @@ use Rattle.cayley.specs.Problems.{unperturbed, HasSamePoints}
 use Rattle.cayley.specs.Cells.{Cell, EachPair}
 use Rattle.cayley.specs.Files.{File, FilePoint, resting, plain_problem}
 use Rattle.cayley.specs.Valid.{IsValidFile}
-use Rattle.cayley.proofs.OneCell.PlainProblems.{plain_of, plain_unperturbed}
-use Rattle.cayley.proofs.OneCell.Unperturbed.{same_unperturbed, same_of}
-use Rattle.cayley.proofs.Lists.Each.{each_weaker}
+use Rattle.cayley.proofs.Ranking.PlainProblems.{plain_of, plain_unperturbed}
+use Rattle.cayley.proofs.Ranking.Unperturbed.{same_unperturbed, same_of}
+use Rattle.int_vectors.proofs.Each.{each_weaker}
 use Rattle.line_text.specs.Lines.{Row, lines_of, end_line_of}
 use Rattle.support_text.specs.declared.fault.Kind.TheVariants.{Count, Number, Range}
 use Rattle.support_text.specs.declared.fault.FormatFault.{FormatFault}

@@ -11,7 +11,7 @@ use Rattle.cayley.specs.Files.{File, FilePoint}
 use Rattle.cayley.specs.Valid.{IsValidFile}
 use Rattle.cayley.specs.declared.found.FoundCell.{FoundCell}
 use Rattle.line_text.specs.Lines.{Row, lines_of, end_line_of}
-use Rattle.cayley.proofs.Lists.Each.{each_append}
+use Rattle.int_vectors.proofs.Each.{each_append, each_unmap}
 use Rattle.support_text.specs.declared.fault.Kind.TheVariants.{Count, Number, Range}
 use Rattle.support_text.specs.Faults.{series}
 use Rattle.support_text.specs.Words.{Text, words, word, nothing_more, next_line}
@@ -122,10 +122,6 @@ cells_each counts end before (y ∷ ys) small h = (
   cells_each counts end (before ++ y ∷ []) ys small h.1,
 )
 
-pub unmapped : {A B : Type 0} (P : B → Type 0) (f : A → B) (xs : List A) → Each (map f xs) P → Each xs (λ x. P (f x))
-unmapped P f [] h = tt
-unmapped P f (x ∷ xs) h = (h.0, unmapped P f xs h.1)
-
 count_again : (k : ℕ) → k ≤ 4294967295 → ReadsWords cells_line (codes "cells" ∷ decimal k ∷ []) k
 unfolding cells_line word nothing_more
 count_again k most line =
@@ -144,7 +140,7 @@ part_back counts end found rows rest small formed few lines =
     let parts = lines_split (map cell_words found) ((codes "end" ∷ []) ∷ []) lines.1 rest lines.4 in
     let r = cells_chain found lines.1 parts.0 parts.1 in
     let size : length r.0 ≡ length found = mapped_size r.0 ∙ ap length r.2 in
-    let each = unmapped (IsFormed counts) found_of r.0 (subst (λ (l : List FoundCell). Each l (IsFormed counts)) (sym r.2) formed) in
+    let each = each_unmap found_of (IsFormed counts) r.0 (subst (λ (l : List FoundCell). Each l (IsFormed counts)) (sym r.2) formed) in
     let body = subst (λ (k : ℕ). series k (cell_at counts end) [] lines.1 ≡ Ok (r.0, parts.0)) size
     (series_again TakesCell (cell_at counts end) [] r.0 lines.1 parts.0 (cells_each counts end [] r.0 small each) r.1) in
     let last = next_again end_line (codes "end" ∷ []) tt end parts.0 rest end_again parts.2 in

@@ -14,7 +14,7 @@ use cayley::{Cell, Normal};
 use int_vectors::IntVec;
 use line_text::{Line, Lines};
 use std::alloc::Global;
-use support_text::{Kind, TextFault, fault_at, next_line, nothing_more, number, word};
+use support_text::{Kind, TextFault, end_line, fault_at, next_line, nothing_more, number, word};
 
 const LARGEST: i128 = i128::MAX;
 
@@ -190,15 +190,14 @@ fn cell_lines(
 }
 
 // `end`, and the number of its line.
-#[tactic(auto, unfolding(support_text::specs::Words::next_line, support_text::specs::ProblemText::end_line))]
+#[tactic(auto, unfolding(support_text::specs::Words::next_line))]
 fn last_line(lines: &mut Lines) -> Result<u64, TextFault>
     ensures reading { Gives (λ number. (tt, lines.new.rows)) result (spec.next_line end_line lines.old.end_line lines.old.rows) }
     ensures number { IfOk result (λ number. number ≡ next_number lines.old.end_line lines.old.rows) }
     ensures end_line { lines.new.end_line ≡ lines.old.end_line }
 {
     let mut line = next_line(lines)?;
-    word(&mut line, b"end", Kind::Extra)?;
-    nothing_more(&mut line, Kind::Extra)?;
+    end_line(&mut line)?;
     Ok(line.number())
 }
 

@@ -12,11 +12,12 @@ use Rattle.cayley.specs.Dependencies.{pair_at, IsFurtherAt, IsPositiveDependency
 use Rattle.cayley.proofs.Algebra.Kernel as kernel
 use Rattle.cayley.proofs.Algebra.Kernel.{Kills, dot_comm}
 use Rattle.cayley.proofs.Algebra.RowDependencies.{IsDependency}
-use Rattle.cayley.proofs.Flipping.Places.{pairs_long, further_bound}
+use Rattle.cayley.proofs.Flipping.Places.{further_bound}
 use Rattle.cayley.proofs.OneCell.CellRows.{InRange}
 use Rattle.cayley.proofs.OneCell.OneDependency.{pairs_from, numbers_of_rows}
-use Rattle.cayley.proofs.OneCell.Unperturbed.{same_dimension, same_of, same_well}
+use Rattle.cayley.proofs.Ranking.Unperturbed.{same_dimension, same_of, same_well}
 use Rattle.cayley.specs.Rows.{edges}
+use Rattle.cayley.proofs.Lists.Pairs.{pairs_long}
 use Rattle.inner_normal.specs.Coefficients.{difference, products, coefficients_of, numbers_of}
 use Rattle.inner_normal.specs.MovingNormals.{IsMovingNormal}
 use Rattle.inner_normal.proofs.PairNumbers.{last-coefficients, pairs-coefficients}

@@ -5,7 +5,7 @@ use Rattle.cayley.specs.Problems.{Problem}
 use Rattle.cayley.specs.Valid.{IsValidProblem}
 use Rattle.cayley.specs.Cells.{Cell, IsOf}
 use Rattle.cayley.specs.Dependencies.{IsFurtherAt}
-use Rattle.cayley.proofs.Lists.Each.{all_each, each_unmap, each_weaker, each_both}
+use Rattle.int_vectors.proofs.Each.{all_each, each_unmap, each_weaker, each_both}
 use Rattle.crossing.specs.declared.line.WallLine.{WallLine}
 use Rattle.crossing.specs.Lines.{FitsLine}
 use Rattle.inner_normal.specs.Coefficients.{difference, FitsCoefficients}

@@ -8,7 +8,7 @@ use Rattle.cayley.specs.Paths.{path}
 use Rattle.cayley.specs.Cells.{Cell, EachPair, IsOf, IsFurther}
 use Rattle.cayley.specs.Dependencies.{pair_at, nth_support}
 use Rattle.cayley.specs.Rows.{edge_row, edge_rows_from, edge_rows}
-use Rattle.cayley.proofs.OneCell.FilePointRanks.{Alike, Alikes, file_points_alike}
+use Rattle.cayley.proofs.Ranking.FilePointRanks.{Alike, Alikes, file_points_alike}
 use Rattle.reduced_rows.specs.Steps.{elimination, FitsElimination}
 use Rattle.inner_normal.specs.declared.moving.MovingNormal.{MovingNormal}
 use Rattle.inner_normal.specs.Inverses.{inverse_of, FitsInverse}

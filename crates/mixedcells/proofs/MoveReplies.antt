@@ -10,7 +10,7 @@ use Rattle.cayley.specs.Files.{File, plain_problem}
 use Rattle.cayley.specs.Mixed.{IsAlive, IsMixedCell}
 use Rattle.cayley.specs.Shapes.{AreSecondHeights}
 use Rattle.cayley.specs.Valid.{IsValidFile}
-use Rattle.cayley.proofs.Lists.Each.{each_map, each_unmap, each_weaker}
+use Rattle.int_vectors.proofs.Each.{each_map, each_unmap, each_weaker}
 use Rattle.line_text.specs.Lines.{Row, lines_of, end_line_of}
 use Rattle.cayley.specs.Stored.{cells_of}
 use Rattle.support_text.specs.declared.fault.FormatFault.{FormatFault}

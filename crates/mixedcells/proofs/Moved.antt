@@ -9,8 +9,8 @@ use Rattle.cayley.specs.Files.{plain_problem, between_problem}
 use Rattle.cayley.specs.Mixed.{IsMixedCell, IsLowestNormal}
 use Rattle.cayley.specs.Shapes.{AreSecondHeights}
 use Rattle.cayley.specs.Valid.{IsValidFile}
-use Rattle.cayley.proofs.OneCell.PlainProblems.{plain_valid}
-use Rattle.cayley.proofs.OneCell.MovedProblems.{between_valid}
+use Rattle.cayley.proofs.Ranking.PlainProblems.{plain_valid}
+use Rattle.cayley.proofs.Ranking.MovedProblems.{between_valid}
 use Rattle.searcher.specs.declared.expansions.HaltCause.TheVariants.{Tie, Overflow}
 use Rattle.searcher.specs.Passes.{IsReached}
 use Rattle.listing_text.specs.declared.listing.Listing.{Listing}

@@ -8,8 +8,9 @@ use Rattle.cayley.specs.Files.{File, plain_problem}
 use Rattle.cayley.specs.Paths.{path, start_cell}
 use Rattle.cayley.specs.Mixed.{IsMixedCell, IsLowestNormal}
 use Rattle.cayley.specs.Valid.{IsValidFile}
-use Rattle.cayley.proofs.OneCell.PlainProblems.{plain_valid}
+use Rattle.cayley.proofs.Ranking.PlainProblems.{plain_valid}
 use Rattle.cayley.proofs.Searching.Chains.{chain_of}
+use Rattle.cayley.proofs.Lists.Pairs.{pairs_map}
 use Rattle.start_system.proofs.Started.SearchLaws.{path_law}
 use Rattle.inner_normal.specs.Workings.{denominator}
 use Rattle.inner_normal.proofs.Meaning.{reduced_of}
@@ -23,7 +24,6 @@ use Rattle.listing_text.specs.declared.listing.ListedCell.{ListedCell}
 use Rattle.listing_text.proofs.Formed.{meant_valid}
 use Rattle.cell_certificate.specs.Sums.{FitsRise, FitsOwn}
 use Rattle.cell_certificate.specs.Judgements.{FirstRefused}
-use Rattle.cell_certificate.proofs.Together.{pairs_map}
 use Rattle.cell_certificate.proofs.WorkedSums.{FitsOwnReduced, own_fits}
 use Rattle.cell_bound.specs.Quiet.{IsQuiet}
 use Rattle.cell_bound.specs.OwnLines.{FitOwnLines}
@@ -66,8 +66,7 @@ module _ (file : File) (valid : IsValidFile file) (quiet : IsQuiet file) where
       let p = plain_problem file in
       let lines : FitOwnLines p cell = plain_own file valid cell (subst (λ q. IsOf q cell) (sym (path_law file valid).2) of) (small.quiet_own file valid quiet cell (path_of file valid cell of)) in
       subst (λ k. FitsOwn p cell (shares k 0 (denominator made) made) (pos (denominator made))) (reduced_of p cell (plain_valid file valid).shape.problem of made ((all_plain_fit cell of).0, e)).count
-      (pairs_map p.supports cell (λ s a b. FitsWall (normal_of_rows made) (point_at s a) (point_at s b))
-      (λ s a b. FitsRise (pos (denominator made)) (shares (length made) 0 (denominator made) made) (point_at s a) (point_at s b)) (lines made e) (λ s a b f. f.0))
+      (pairs_map p.supports cell (λ s a b. FitsWall (normal_of_rows made) (point_at s a) (point_at s b)) (λ s a b. FitsRise (pos (denominator made)) (shares (length made) 0 (denominator made) made) (point_at s a) (point_at s b)) (λ s a b f. f.0) (lines made e))
 
   line_own : (cell : Cell) (v : List ℤ) (den : ℤ) → IsMixedCell (plain_problem file) cell → IsLowestNormal (plain_problem file) cell v den → FitsOwn (plain_problem file) cell v den
   line_own cell v den m n =

@@ -15,9 +15,9 @@ use Rattle.cayley.specs.Files.{File, FilePoint, resting, plain_problem}
 use Rattle.cayley.specs.Paths.{path}
 use Rattle.cayley.specs.Valid.{IsValidFile}
 use Rattle.cayley.specs.declared.found.FoundCell.{FoundCell}
-use Rattle.cayley.proofs.Lists.Each.{map_map, each_unmap, each_weaker}
-use Rattle.cayley.proofs.OneCell.PlainProblems.{plain_of, plain_valid}
-use Rattle.cayley.proofs.OneCell.Unperturbed.{same_of}
+use Rattle.int_vectors.proofs.Each.{map_map, each_unmap, each_weaker}
+use Rattle.cayley.proofs.Ranking.PlainProblems.{plain_of, plain_valid}
+use Rattle.cayley.proofs.Ranking.Unperturbed.{same_of}
 use Rattle.searcher.specs.Workings.{FitsWorking}
 use Rattle.support_text.specs.Words.{Text, text_of}
 use Rattle.support_text.specs.ProblemText.{problem_of}
@@ -32,6 +32,7 @@ use Rattle.listing_text.proofs.Formed.{meant_valid, plain_same, listing_formed}
 use Rattle.listing_text.proofs.ListingBack.{listing_back}
 use Rattle.reduced_rows.specs.Denominators.{shares}
 use Rattle.cayley.proofs.OneCell.LowestTerms.{long_first}
+use Rattle.cayley.proofs.Lists.Pairs.{pairs_map}
 use Rattle.inner_normal.specs.Workings.{denominator}
 use Rattle.inner_normal.proofs.Meaning.{reduced_of}
 use Rattle.cone_walls.specs.Numbers.{FitsWall}
@@ -46,7 +47,6 @@ use Rattle.cell_certificate.specs.Written as written
 use Rattle.cell_certificate.specs.Written.{IsWritten, SparesWritten}
 use Rattle.cell_certificate.proofs.LowestLevel.{lowest_level}
 use Rattle.cell_certificate.proofs.PlainPoints.{own_points}
-use Rattle.cell_certificate.proofs.Together.{pairs_map}
 use Rattle.cell_certificate.proofs.WorkedSums.{entries_fit}
 use Rattle.cell_certificate.proofs.WrittenLines.{written_spared}
 use Rattle.mixedcells.specs.declared.outcome.Outcome.{Outcome}
@@ -65,10 +65,7 @@ use Rattle.mixedcells.proofs.Walking.{points_same}
 -- the first number of each wall line, over the dimension
 first_fits : (p : Problem) (cell : Cell) (made : List (List ℤ)) (n : ℕ) → length made ≡ n → FitsWalls p cell (normal_of_rows made) → FitsFurther p cell (shares n 0 (denominator made) made) (pos (denominator made))
 first_fits p cell made n e h = subst (λ k. FitsFurther p cell (shares k 0 (denominator made) made) (pos (denominator made))) e (
-    pairs_map p.supports cell
-    (λ s a b. (c : ℕ) → IsFurther s a b c → FitsWall (normal_of_rows made) (point_at s a) (point_at s c))
-    (λ s a b. (c : ℕ) → FitsAt (pos (denominator made)) (shares (length made) 0 (denominator made) made) s a b c)
-    h (λ s a b f c u. (f c u).0)
+    pairs_map p.supports cell (λ s a b. (c : ℕ) → IsFurther s a b c → FitsWall (normal_of_rows made) (point_at s a) (point_at s c)) (λ s a b. (c : ℕ) → FitsAt (pos (denominator made)) (shares (length made) 0 (denominator made) made) s a b c) (λ s a b f c u. (f c u).0) h
     )
 
 fits_working : (p : Problem) (cell : Cell) → IsProblem p → IsOf p cell → FitsWallWorking p cell → written.FitsWritten p cell

@@ -1,10 +1,10 @@
 -- What `poly` replies is one text or one fault, and the stored supports of a system make its file.
-use Rattle.std.proofs.Common.{◌≡◌, ◌∙◌, ℕ, ℤ, List, map, length, Ok, Err, sym, ap, ap₂, subst, inl, inr}
+use Rattle.std.proofs.Common.{◌≡◌, ◌∙◌, ℕ, ℤ, List, map, length, sym, ap, ap₂, subst, inl, inr}
 use Rattle.std.specs.Global.{Vec}
 use Rattle.std.proofs.lemmas.List.{length-map}
 use Rattle.int_vectors.specs.Vectors.{Each}
 use Rattle.cayley.specs.Files.{File}
-use Rattle.cayley.proofs.Lists.Each.{each_unmap}
+use Rattle.int_vectors.proofs.Each.{each_unmap}
 use Rattle.support_text.specs.declared.fault.FormatFault.{FormatFault}
 use Rattle.support_text.specs.Writing.{problem_text}
 use Rattle.poly_text.specs.SystemText.{PointSystem, support_view, system_of}

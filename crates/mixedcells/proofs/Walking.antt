@@ -15,7 +15,7 @@ use Rattle.cayley.specs.Shares as shares
 use Rattle.cayley.specs.Ties.{IsTieFree}
 use Rattle.cayley.specs.declared.found.Begin.TheVariants.{Start}
 use Rattle.cayley.specs.declared.found.FoundCell.{FoundCell}
-use Rattle.cayley.proofs.Lists.Each.{each_weaker}
+use Rattle.int_vectors.proofs.Each.{each_weaker}
 use Rattle.cayley.proofs.Searching.FilePoints.{dec_mixed}
 use Rattle.cayley.proofs.Searching.Shares.{a_size, a_share}
 use Rattle.cayley.proofs.Searching.Steps.{size_some}

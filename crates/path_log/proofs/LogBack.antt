@@ -7,7 +7,7 @@ use Rattle.cayley.specs.Files.{File, FilePoint}
 use Rattle.cayley.specs.Valid.{IsValidFile}
 use Rattle.cayley.specs.declared.found.FoundCell.{FoundCell}
 use Rattle.line_text.specs.Lines.{Row, lines_of, end_line_of}
-use Rattle.cayley.proofs.Lists.Each.{each_append}
+use Rattle.int_vectors.proofs.Each.{each_append, each_unmap}
 use Rattle.support_text.specs.declared.fault.Kind.TheVariants.{Count, Number, Range}
 use Rattle.support_text.specs.Faults.{series}
 use Rattle.support_text.specs.Words.{Text, words, word, nothing_more, next_line}
@@ -21,7 +21,7 @@ use Rattle.listing_text.specs.ListingText.{normal_entry, part_at, counts_of}
 use Rattle.listing_text.specs.Writing.{position_words, cells_lines}
 use Rattle.listing_text.specs.Forms.{IsEntry, IsFormed}
 use Rattle.listing_text.proofs.Limits.{entry_width}
-use Rattle.listing_text.proofs.ListingBack.{largest, entries_small, over_width, pairs_again, positions_are_words, cells_are_lines, small_counts, unmapped, part_back}
+use Rattle.listing_text.proofs.ListingBack.{largest, entries_small, over_width, pairs_again, positions_are_words, cells_are_lines, small_counts, part_back}
 use Rattle.path_trace.specs.declared.trace.TraceNode.{TraceNode}
 use Rattle.path_log.specs.declared.log.LogNode.{LogNode}
 use Rattle.path_log.specs.LogText.{spans_of, log_line, node_line, node_at, log_of}
@@ -82,7 +82,7 @@ nodes_back : (spans : List ℕ) (end : ℕ) (nodes : List TraceNode) (rows rest 
 nodes_back spans end nodes rows rest small formed lines =
     let r = nodes_chain nodes rows rest lines in
     let size : length r.0 ≡ length nodes = mapped_size r.0 ∙ ap length r.2 in
-    let each = unmapped (IsFormedNode spans) node_of r.0 (subst (λ (l : List TraceNode). Each l (IsFormedNode spans)) (sym r.2) formed) in
+    let each = each_unmap node_of (IsFormedNode spans) r.0 (subst (λ (l : List TraceNode). Each l (IsFormedNode spans)) (sym r.2) formed) in
     let body = subst (λ (k : ℕ). series k (node_at spans end) [] rows ≡ Ok (r.0, rest)) size
     (series_again TakesNode (node_at spans end) [] r.0 rows rest (nodes_each spans end [] r.0 small each) r.1) in
     (r.0, body, r.2)

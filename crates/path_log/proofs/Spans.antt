@@ -2,7 +2,7 @@
 use Rattle.std.proofs.Common.{◌≡◌, ℕ, ◌+◌, ◌≤◌, List, map, Result, Ok, Err, sym, subst, arith}
 use Rattle.std.specs.Prelude.{IfOk, All}
 use Rattle.std.specs.Global.{Vec}
-use Rattle.cayley.proofs.Lists.Each.{all_each, each_all}
+use Rattle.int_vectors.proofs.Each.{all_each, each_all}
 use Rattle.support_text.proofs.WrittenWords.{each-map}
 
 abbrev IsCount : ℕ → Type 0

@@ -2,11 +2,8 @@
 use Rattle.std.proofs.Common.{◌≡◌, ℕ, zero, suc, ◌+◌, ◌<◌, List, [], ◌∷◌, ◌++◌, length, take, get_or, arith, sym, ap, ap₂, subst, ◌∙◌, append_assoc, append-nil}
 use Rattle.std.proofs.Math.IntN.{ℤ}
 use Rattle.std.proofs.lemmas.List.{take_more, map-append}
-use Rattle.wide_int.specs.Whole.{FitsWhole}
-use Rattle.int_vectors.specs.Fits.{AllFit}
 use Rattle.int_vectors.specs.Vectors.{Each, at, entries_at}
-use Rattle.cayley.proofs.OneCell.EdgeRows.{fits-append}
-use Rattle.cayley.proofs.Lists.Each.{each_weaker}
+use Rattle.int_vectors.proofs.Each.{each_weaker}
 use Rattle.path_tracer.specs.Rows.{rows_of}
 
 pub entry_more : (place : ℕ) (columns : List (List ℤ)) (i : ℕ) (first old new : List ℤ) (x : ℤ) → i < length columns → old ≡ first ++ entries_at place (take i columns) → x ≡ at (get_or columns i []) place → new ≡ old ++ x ∷ []
@@ -14,9 +11,6 @@ pub entry_more : (place : ℕ) (columns : List (List ℤ)) (i : ℕ) (first old 
 entry_more place columns i first old new x l is e n =
     n ∙ ap₂ (λ a b. a ++ b ∷ []) is e ∙ append_assoc first (entries_at place (take i columns)) (at (get_or columns i []) place ∷ [])
     ∙ ap (λ l. first ++ l) (sym (map-append (λ (column : List ℤ). at column place) (take i columns) (get_or columns i [] ∷ [])) ∙ ap (entries_at place) (sym (take_more columns i [] l)))
-
-pub fits_more : (old new : List ℤ) (x : ℤ) → new ≡ old ++ x ∷ [] → AllFit old → FitsWhole x → AllFit new
-fits_more old new x e f g = subst AllFit (sym e) (fits-append old (x ∷ []) f (g, tt))
 
 rows_next : (m i : ℕ) (columns : List (List ℤ)) → rows_of (suc m) i columns ≡ rows_of m i columns ++ entries_at (i + m) columns
 rows_next zero i columns = let e : i ≡ i + 0 = omega arith in append-nil (entries_at i columns) ∙ ap (λ k. entries_at k columns) e

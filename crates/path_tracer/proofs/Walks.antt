@@ -13,7 +13,7 @@ use Rattle.cayley.specs.Cells.{Cell, IsListOf}
 use Rattle.cayley.specs.Parents.{IsParent}
 use Rattle.cayley.specs.Shares as shares
 use Rattle.cayley.specs.Shares.{IsTrueBranch, GivesSizes, IsChildren, Solved}
-use Rattle.cayley.proofs.Lists.Each.{each_append}
+use Rattle.int_vectors.proofs.Each.{each_append}
 use Rattle.cayley.proofs.Searching.Members.{has_contains, contains_has}
 use Rattle.cayley.proofs.Searching.Shares.{true_of}
 use Rattle.cayley.proofs.Searching.Steps.{weight, each_in}

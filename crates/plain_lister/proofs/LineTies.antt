@@ -17,7 +17,8 @@ use Rattle.cayley.specs.TieProofs.{spot_of}
 use Rattle.cayley.specs.NamedTies as named
 use Rattle.cayley.specs.NamedTies.{IsLevelThen, IsNamedTie}
 use Rattle.cayley.proofs.OneCell.CellNormals.{a_normal}
-use Rattle.cayley.proofs.Life.NamedTies.{pair_place, place_pair, named_tie_law}
+use Rattle.cayley.proofs.Life.NamedTies.{pair_place, named_tie_law}
+use Rattle.cayley.proofs.Lists.Pairs.{pairs_further}
 use Rattle.crossing.specs.declared.line.WallLine.{WallLine}
 use Rattle.crossing.specs.declared.ties.Tie.{Tie}
 use Rattle.crossing.specs.Lines.{IsFlat}
@@ -67,7 +68,7 @@ module _ (p : Problem) (cell : Cell) (well : IsProblem p) (of : IsOf p cell) (in
       let v = a_normal p cell well of ind t in (
         v.0,
         v.1,
-        place_pair (λ s a c. IsAbove t v.0 s a c ⊎ IsLevel t v.0 s a c) _ p.supports cell of (λ j c f.
+        pairs_further (λ s a c. IsAbove t v.0 s a c ⊎ IsLevel t v.0 s a c) _ p.supports cell of (λ j c f.
             let e : j ≡ suc j - 1 = omega arith in
             subst (λ i. IsAbove t v.0 (nth_support p.supports i) (pair_at cell i).0 c ⊎ IsLevel t v.0 (nth_support p.supports i) (pair_at cell i).0 c) (sym e)
             (at_spot v.0 v.1 (suc j, c) (omega arith, subst (λ i. IsFurtherAt p cell i c) e f))),

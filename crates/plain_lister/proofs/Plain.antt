@@ -5,7 +5,7 @@ use Rattle.int_vectors.specs.Vectors.{Each}
 use Rattle.cayley.specs.Problems.{Point, Problem, EachSupport, IsStill, ranked_supports, file_points, HasNoCorners}
 use Rattle.cayley.specs.declared.limits.TheConstants.{POINTS}
 use Rattle.cayley.specs.Valid.{IsValidProblem}
-use Rattle.cayley.proofs.OneCell.PlainProblems.{take_whole as take_length, whole_supports}
+use Rattle.cayley.proofs.Ranking.PlainProblems.{take_whole as take_length, whole_supports}
 use Rattle.plain_lister.specs.Choices.{most_points}
 
 -- what is said of the first points of each support is said of all

@@ -5,7 +5,7 @@ use Rattle.std.proofs.Math.IntN.{pos}
 use Rattle.int_vectors.specs.Vectors.{Each}
 use Rattle.cayley.specs.Files.{FilePoint, File, resting, plain_problem}
 use Rattle.cayley.specs.Problems.{Point, Problem, EachSupport, HasNoCorners, IsStill, with_rank}
-use Rattle.cayley.proofs.OneCell.PlainProblems.{plain_unperturbed, plain_still}
+use Rattle.cayley.proofs.Ranking.PlainProblems.{plain_unperturbed, plain_still}
 
 abbrev Rests : ℕ → ℕ → List Point → Type 0
 Rests i f s = Each (take f s) (λ (x : Point). x.speed ≡ pos 0)

@@ -11,7 +11,7 @@ use Rattle.cayley.proofs.Refusals.Repeats.{equal_lists}
 use Rattle.line_text.specs.declared.numbers.BadNumber.TheVariants.{Spelling, Outside}
 use Rattle.line_text.specs.Numbers.{is_number, value_of, number_in}
 use Rattle.line_text.specs.Lines.{Row, lines_of, end_line_of}
-use Rattle.cayley.proofs.Lists.Each.{each_weaker}
+use Rattle.int_vectors.proofs.Each.{each_weaker}
 use Rattle.support_text.specs.declared.fault.TextFault.{TextFault}
 use Rattle.support_text.specs.Faults.{Gives, series}
 use Rattle.support_text.specs.Words.{Text, words}

@@ -16,9 +16,10 @@ use Rattle.reduced_rows.specs.Spans.{InSpan, SameSpan, IsReduced, IsReducedOf, I
 use Rattle.int_vectors.proofs.EntryDivisors.{content_is, scale-primitive, primitive_small}
 use Rattle.int_vectors.proofs.TakingOff.{other_case}
 use Rattle.int_vectors.proofs.Entries.{zero_below, at-scale}
+use Rattle.int_vectors.proofs.Each.{each_append}
 use Rattle.reduced_rows.proofs.Picking.{pick_is, pick_left, zero_case, zero_or}
 use Rattle.reduced_rows.proofs.CleaningAll.{signed_negative, signed_positive}
-use Rattle.reduced_rows.proofs.Shape.{IsShaped, shape_step, each_map, each_append}
+use Rattle.reduced_rows.proofs.Shape.{IsShaped, shape_step, each_map}
 use Rattle.reduced_rows.proofs.Run.{steps_next, steps_none, shape_init}
 use Rattle.reduced_rows.proofs.Combinations.{same_trans, same_self, each_weaken, span_orthogonal}
 use Rattle.reduced_rows.proofs.SpanSteps.{primitive_span, step_span, each_concat}
@@ -124,7 +125,7 @@ one_step m width k done rest s c a b h (Some p) e =
     let n : suc k + m ≡ k + suc m = omega arith in
     let f = t.count in
     let m' = h done' rest' (shape_step width k done rest x others e s) (length-map others (cleaned k y) ∙ omega (arith, c, f))
-    (each_append IsSmall (map (cleaned k y) done) y (small_all k y done a) (small_signed k x q.0)) (small_all k y others q.1) in
+    (each_append IsSmall (map (cleaned k y) done) (y ∷ []) (small_all k y done a) ((small_signed k x q.0), tt)) (small_all k y others q.1) in
     subst (λ i. Means i width (done ++ rest) (steps (suc m) k done rest)) n
     (subst (Means (suc k + m) width (done ++ rest)) (sym (steps_next m k done rest x others e))
     (carried (suc k + m) width (done ++ rest) (done' ++ rest') (steps m (suc k) done' rest') (step_span width k done rest x others e s.long_done s.long_rest) m'))

@@ -5,6 +5,7 @@ use Rattle.std.proofs.lemmas.List.{length-map}
 use Rattle.int_vectors.specs.Vectors.{Each, at}
 use Rattle.reduced_rows.specs.Steps.{OfLength, signed, pick}
 use Rattle.int_vectors.specs.RowSteps.{cleaned}
+use Rattle.int_vectors.proofs.Each.{each_both, each_append}
 use Rattle.reduced_rows.specs.Spans.{IsReduced}
 use Rattle.reduced_rows.proofs.Picking.{pick_is}
 use Rattle.reduced_rows.proofs.Entries.{Cleaning, cleaning, Turned, turned, length-signed, zero_factor, positive_factor}
@@ -23,14 +24,6 @@ pub record IsShaped (n k : ℕ) (done rest : List (List ℤ)) : Type 0 where
 pub each_map : (P Q : List ℤ → Type 0) (f : List ℤ → List ℤ) (rows : List (List ℤ)) → ((row : List ℤ) → P row → Q (f row)) → Each rows P → Each (map f rows) Q
 each_map P Q f [] h a = tt
 each_map P Q f (row ∷ rows) h a = (h row a.0, each_map P Q f rows h a.1)
-
-pub each_append : (P : List ℤ → Type 0) (rows : List (List ℤ)) (row : List ℤ) → Each rows P → P row → Each (rows ++ row ∷ []) P
-each_append P [] row a p = (p, tt)
-each_append P (r ∷ rows) row a p = (a.0, each_append P rows row a.1 p)
-
-pub each_both : (P Q : List ℤ → Type 0) (rows : List (List ℤ)) → Each rows P → Each rows Q → Each rows (λ row. P row × Q row)
-each_both P Q [] a b = tt
-each_both P Q (row ∷ rows) a b = ((a.0, b.0), each_both P Q rows a.1 b.1)
 
 -- a cleared row is zero where the row and the pivot row are
 clears : (k : ℕ) (y row made : List ℤ) → Cleaning k y row made → (e : ℕ) → at row e ≡ pos 0 → at y e ≡ pos 0 → at made e ≡ pos 0
@@ -100,7 +93,7 @@ shape_step n k done rest x others e s =
     let zy = turned_zero k x y t z.0 in
     record {
       count = count done (signed k x) s.count;
-      long_done = each_append (λ row. length row ≡ n) (map (cleaned k y) done) y (long_more n k y ly t.positive zy done s.long_done) ly;
+      long_done = each_append (λ row. length row ≡ n) (map (cleaned k y) done) (y ∷ []) (long_more n k y ly t.positive zy done s.long_done) (ly, tt);
       long_rest = long_more n k y ly t.positive zy others l.1;
       reduced = reduced_more n k y ly t.positive zy 0 done (let e = s.count in omega arith) s.long_done s.reduced;
       zero_rest = rest_more n k y ly t.positive zy others l.1 z.1;

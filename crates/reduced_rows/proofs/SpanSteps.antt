@@ -6,10 +6,11 @@ use Rattle.wide_int.proofs.Ring.{as_D, Ds, same_D}
 use Rattle.int_vectors.specs.Contents.{primitive}
 use Rattle.reduced_rows.specs.Steps.{OfLength, signed, pick}
 use Rattle.int_vectors.specs.RowSteps.{cleaned}
+use Rattle.int_vectors.proofs.Each.{each_both, each_append}
 use Rattle.reduced_rows.specs.Spans.{InSpan, SameSpan}
 use Rattle.reduced_rows.proofs.Picking.{Picked, pick_is}
 use Rattle.reduced_rows.proofs.Entries.{primitive_scaled, Cleaning, cleaning, Turned, turned, length-signed}
-use Rattle.reduced_rows.proofs.Shape.{each_map, each_append, each_both}
+use Rattle.reduced_rows.proofs.Shape.{each_map}
 use Rattle.reduced_rows.proofs.Combinations.{spans_mix, spans_scaled, each_self}
 
 pub each_concat : (P : List ℤ → Type 0) (xs ys : List (List ℤ)) → Each xs P → Each ys P → Each (xs ++ ys) P
@@ -110,7 +111,7 @@ module _ (n k : ℕ) (done rest : List (List ℤ)) (x : List ℤ) (others : List
       let made : (rows : List (List ℤ)) → OfLength n rows → Each rows (InSpan before) → Each (map (cleaned k y) rows) (InSpan before) =
       λ rows l s. each_map (λ row. (length row ≡ n) × InSpan before row) (InSpan before) (cleaned k y) rows (λ row h. clean_to before row t h.0 h.1) (each_both (λ row. length row ≡ n) (InSpan before) rows l s) in
       each_concat (InSpan before) (map (cleaned k y) done ++ y ∷ []) (map (cleaned k y) others)
-      (each_append (InSpan before) (map (cleaned k y) done) y (made done long_done p.0) t)
+      (each_append (InSpan before) (map (cleaned k y) done) (y ∷ []) (made done long_done p.0) (t, tt))
       (made others long.1 q.1)
 
   step_from : Each before (InSpan after)

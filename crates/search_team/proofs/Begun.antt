@@ -8,7 +8,7 @@ use Rattle.std.proofs.lemmas.List.Elements.{All-cons, Contains-append_left, Cont
 use Rattle.std.proofs.lemmas.List.Sorted.{IsPermutation-refl, IsPermutation-sym, IsPermutation-trans, IsPermutation-append_right, IsPermutation-append_comm, Contains-permutation}
 use Rattle.std.proofs.lemmas.Bool.Decides.{nat_tests}
 use Rattle.cayley.specs.Problems.{Problem}
-use Rattle.cayley.proofs.OneCell.MovedProblems.{map_push}
+use Rattle.cayley.proofs.Ranking.MovedProblems.{map_push}
 use Rattle.branch_pool.specs.Seats.{PoolData, IsSeatOf, all_taken}
 use Rattle.searcher.specs.declared.branches.Branch.{Branch}
 use Rattle.searcher.specs.declared.expansions.HaltCause.{HaltCause}

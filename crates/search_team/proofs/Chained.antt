@@ -11,7 +11,7 @@ use Rattle.cayley.specs.Parents.{InChain}
 use Rattle.cayley.specs.Parents.InChain.{here}
 use Rattle.cayley.specs.Shares as shares
 use Rattle.cayley.specs.Shares.{IsLed}
-use Rattle.cayley.proofs.Lists.Each.{each_append, each_weaker}
+use Rattle.int_vectors.proofs.Each.{each_append, each_weaker}
 use Rattle.cayley.proofs.Searching.Chains.{rank, rank_parent, chain_trans}
 use Rattle.cayley.proofs.Searching.Members.{has_contains, contains_has, map_has}
 use Rattle.cayley.proofs.Searching.Steps.{led_child}

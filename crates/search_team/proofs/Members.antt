@@ -3,7 +3,7 @@ use Rattle.std.proofs.Common.{◌≡◌, List, inl, inr, Option, None, Some, rul
 use Rattle.std.specs.Prelude.{Contains, IfSome, IsSome}
 use Rattle.int_vectors.specs.Vectors.{Each}
 use Rattle.cayley.specs.Problems.{Problem}
-use Rattle.cayley.proofs.Lists.Each.{each_weaker}
+use Rattle.int_vectors.proofs.Each.{each_weaker}
 use Rattle.cayley.proofs.Searching.Members.{has_contains, contains_has}
 use Rattle.cayley.proofs.Order.Lined.{each_has}
 use Rattle.cayley.proofs.Searching.Steps.{each_in}

@@ -7,7 +7,7 @@ use Rattle.std.proofs.lemmas.List.Sorted.{IsPermutation-sym, Contains-permutatio
 use Rattle.int_vectors.specs.Vectors.{Each}
 use Rattle.cayley.specs.declared.found.Begin.TheVariants.{Start}
 use Rattle.cayley.specs.Problems.{Problem, IsProblem}
-use Rattle.cayley.proofs.Lists.Each.{each_append, each_weaker}
+use Rattle.int_vectors.proofs.Each.{each_append, each_weaker}
 use Rattle.cayley.proofs.Algebra.RowDependencies.{each-left}
 use Rattle.searcher.specs.declared.branches.Branch.{Branch}
 use Rattle.searcher.specs.declared.expansions.Expansion.{Expansion}

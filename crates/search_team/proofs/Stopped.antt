@@ -7,7 +7,7 @@ use Rattle.int_vectors.specs.Vectors.{Each}
 use Rattle.cayley.specs.declared.found.FoundCell.{FoundCell}
 use Rattle.cayley.specs.Problems.{Problem, IsProblem}
 use Rattle.cayley.specs.Ties.{IsTieFree}
-use Rattle.cayley.proofs.Lists.Each.{each_append}
+use Rattle.int_vectors.proofs.Each.{each_append}
 use Rattle.cayley.specs.Stored.{cells_of}
 use Rattle.branch_pool.specs.declared.pool.closing.Unclosed.{Unclosed}
 use Rattle.branch_pool.specs.Seats.{PoolData, SeatData, AreAllSeats, offered_by, taken_by}

@@ -10,7 +10,7 @@ use Rattle.std.proofs.lemmas.List.Sorted.{IsPermutation-refl, IsPermutation-tran
 use Rattle.cayley.specs.declared.found.FoundCell.{FoundCell}
 use Rattle.cayley.specs.Problems.{Problem}
 use Rattle.cayley.specs.Cells.{Cell}
-use Rattle.cayley.proofs.Lists.Each.{each_append}
+use Rattle.int_vectors.proofs.Each.{each_append}
 use Rattle.branch_pool.specs.Seats.{PoolData, SeatData, IsSeatOf, AreAllSeats, all_taken, offered_by, taken_by}
 use Rattle.branch_pool.proofs.Closed.{flat_permutation}
 use Rattle.searcher.specs.declared.branches.Branch.{Branch}

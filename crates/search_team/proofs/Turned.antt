@@ -9,7 +9,7 @@ use Rattle.cayley.specs.Problems.{Problem}
 use Rattle.cayley.specs.Valid.{IsStillProblem}
 use Rattle.cayley.specs.Shares.{Solved}
 use Rattle.cayley.specs.Ties.{IsTieFree}
-use Rattle.cayley.proofs.Lists.Each.{each_append, each_weaker}
+use Rattle.int_vectors.proofs.Each.{each_append, each_weaker}
 use Rattle.cayley.proofs.Algebra.RowDependencies.{each-left, each-right}
 use Rattle.branch_pool.specs.Seats.{PoolData, IsSeatOf, all_taken}
 use Rattle.searcher.specs.declared.branches.Branch.{Branch}

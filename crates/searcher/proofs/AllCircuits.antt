@@ -5,7 +5,7 @@ use Rattle.int_vectors.specs.Vectors.{Each}
 use Rattle.cayley.specs.Problems.{Point, Problem}
 use Rattle.cayley.specs.Cells.{Cell, IsFurther}
 use Rattle.cayley.specs.Dependencies.{pair_at, IsFurtherAt, nth_support}
-use Rattle.cayley.proofs.Lists.Each.{each_weaker}
+use Rattle.int_vectors.proofs.Each.{each_weaker}
 use Rattle.crossing.specs.declared.line.WallLine.{WallLine}
 use Rattle.cone_walls.specs.Places.{HasLine, AreOfFurtherPoints}
 use Rattle.inner_normal.specs.Coefficients.{difference, FitsCoefficients}

@@ -10,7 +10,7 @@ use Rattle.std.specs.List.Sorted.{IsSortedBy}
 use Rattle.std.proofs.lemmas.List.MinMax.{ranks_by}
 use Rattle.cayley.specs.Cells.{Cell, IsLess}
 use Rattle.cayley.proofs.OneCell.CellOrder.{pair_cmp, less-cmp, compared}
-use Rattle.cayley.proofs.Lists.Each.{no_both}
+use Rattle.int_vectors.proofs.Each.{no_both}
 use Rattle.searcher.specs.Searches.{NeverFalls}
 use Rattle.searcher.proofs.Orders.{same_lt}
 

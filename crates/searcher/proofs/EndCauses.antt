@@ -12,8 +12,9 @@ use Rattle.cayley.specs.Flips.{IsOnlyLevel}
 use Rattle.cayley.specs.Lives.{AliveLate, EndsAt}
 use Rattle.cayley.specs.Mixed.{IsAlive}
 use Rattle.cayley.specs.Normals.{Normal, IsNormal}
-use Rattle.cayley.proofs.Flipping.Places.{pairs_long, further_bound}
+use Rattle.cayley.proofs.Flipping.Places.{further_bound}
 use Rattle.cayley.proofs.OneCell.CellRows.{InRange}
+use Rattle.cayley.proofs.Lists.Pairs.{pairs_long}
 use Rattle.crossing.specs.declared.line.WallLine.{WallLine}
 use Rattle.crossing.specs.declared.entry.Entry.{Entry}
 use Rattle.crossing.specs.declared.entry.Entry.TheVariants as entry

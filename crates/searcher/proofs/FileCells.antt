@@ -5,7 +5,7 @@ use Rattle.std.specs.Prelude.{slice_index_or}
 use Rattle.cayley.specs.Problems.{Version, Point, Problem, with_rank, numbered_supports, ranks_in, ranked_supports, first_points, file_points}
 use Rattle.cayley.specs.Problems.Version.{version1, version2}
 use Rattle.cayley.specs.Cells.{Cell, EachPair, IsOf}
-use Rattle.cayley.proofs.OneCell.FilePointRanks.{length-numbered}
+use Rattle.cayley.proofs.Ranking.FilePointRanks.{length-numbered}
 
 abbrev Ordered : List Point → ℕ → ℕ → Type 0
 Ordered s a b = (1 ≤ a) × (a < b) × (b ≤ length s)

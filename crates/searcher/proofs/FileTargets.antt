@@ -15,11 +15,11 @@ use Rattle.cayley.proofs.Order.Lexicographic.{positive-same, not_both, three}
 use Rattle.cayley.proofs.OneCell.CellNormals.{a_normal}
 use Rattle.cayley.proofs.OneCell.OneNormal.{alive_by_any_normal}
 use Rattle.cayley.proofs.OneCell.RaisedRanks.{IsRankedAs, resting_value, still_gap, spread, spread_normal, positive_spread, zero_spread}
-use Rattle.cayley.proofs.OneCell.FilePointRanks.{Alike, Alikes, file_points_alike}
+use Rattle.cayley.proofs.Ranking.FilePointRanks.{Alike, Alikes, file_points_alike}
 use Rattle.cayley.proofs.Searching.FilePoints.{file_points_well}
 use Rattle.cayley.proofs.Lists.Supports.{each_support_long}
 use Rattle.cayley.proofs.Algebra.Dependence.{length-map}
-use Rattle.cayley.proofs.Life.Targets.{still_zero, still_positive}
+use Rattle.cayley.proofs.Life.StillGaps.{gap_zero, gap_positive}
 use Rattle.inner_normal.specs.declared.moving.MovingNormal.{MovingNormal}
 use Rattle.inner_normal.specs.MovingNormals.{IsMovingNormal}
 use Rattle.inner_normal.proofs.FileNormals.{levels_of}
@@ -105,7 +105,7 @@ module _ (gs : List ℕ) (p : Problem) (cell : Cell) (well : IsProblem p) (goal_
         (λ s u a b k o z.
         let ra = first_point gs s u a b k o in
         let rb = second_point gs s u a b k o in
-        still_zero t (spread_normal gs n.0) (point_at s a) (point_at s b) ra.still rb.still (zero_spread gs n.0 (point_at u a) (point_at u b) (point_at s a) (point_at s b) ra rb z))
+        gap_zero time_zero t (spread_normal gs n.0) (point_at s a) (point_at s b) ra.still rb.still (zero_spread gs n.0 (point_at u a) (point_at u b) (point_at s a) (point_at s b) ra rb z))
         w of n.1.1,
   )
 
@@ -121,9 +121,9 @@ module _ (gs : List ℕ) (p : Problem) (cell : Cell) (well : IsProblem p) (goal_
       let high = h c (f.0, omega (arith, l, m), f.2, f.3) in
       three (gap time_zero n.0 (point_at u a) (point_at u c))
       (λ low. absurd (back_not (spread_normal gs n.0) (point_at s a) (point_at s c) ra.still rc.still t high
-      (still_positive t (spread_normal gs n.0) (point_at s c) (point_at s a) rc.still ra.still
+      (gap_positive time_zero t (spread_normal gs n.0) (point_at s c) (point_at s a) rc.still ra.still
       (positive_spread gs n.0 (point_at u c) (point_at u a) (point_at s c) (point_at s a) rc ra (gap_back n.0 (point_at u a) (point_at u c) ra.still_too rc.still_too low)))))
-      (λ z. absurd (not_zero _ high (still_zero t (spread_normal gs n.0) (point_at s a) (point_at s c) ra.still rc.still (zero_spread gs n.0 (point_at u a) (point_at u c) (point_at s a) (point_at s c) ra rc z))))
+      (λ z. absurd (not_zero _ high (gap_zero time_zero t (spread_normal gs n.0) (point_at s a) (point_at s c) ra.still rc.still (zero_spread gs n.0 (point_at u a) (point_at u c) (point_at s a) (point_at s c) ra rc z))))
       (λ g. g))
       w of ((alive_by_any_normal p cell t (spread_normal gs n.0) well alive.0 alive.1 normal).0 alive)
 

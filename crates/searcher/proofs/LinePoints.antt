@@ -13,7 +13,7 @@ use Rattle.cayley.specs.StoredTies.{Spot}
 use Rattle.cayley.specs.StoredTies as spots
 use Rattle.cayley.specs.NamedTies as spots_named
 use Rattle.cayley.specs.NamedTies.{IsLevelThen}
-use Rattle.cayley.proofs.Lists.Each.{all_each}
+use Rattle.int_vectors.proofs.Each.{all_each}
 use Rattle.cayley.proofs.Life.Spots.{earlier_trans}
 use Rattle.cayley.proofs.OneCell.OneNormal.{one_normal_law}
 use Rattle.crossing.specs.declared.line.WallLine.{WallLine}

@@ -5,7 +5,7 @@ use Rattle.cayley.specs.Problems.{Problem, IsProblem}
 use Rattle.cayley.specs.Parents.{IsParent}
 use Rattle.cayley.specs.Shares as shares
 use Rattle.cayley.specs.Shares.{IsTrueBranch, IsChildren}
-use Rattle.cayley.proofs.Lists.Each.{each_append}
+use Rattle.int_vectors.proofs.Each.{each_append}
 use Rattle.cayley.proofs.Searching.Shares.{list_has}
 use Rattle.cayley.proofs.Algebra.RowDependencies.{each-left}
 use Rattle.cayley.proofs.Order.Lined.{each_has}

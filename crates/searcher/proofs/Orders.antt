@@ -11,7 +11,7 @@ use Rattle.std.proofs.lemmas.List.MinMax.{ranks_by}
 use Rattle.cayley.specs.declared.found.FoundCell.{FoundCell}
 use Rattle.cayley.specs.Cells.{Cell, IsLess}
 use Rattle.cayley.proofs.OneCell.CellOrder.{pair_cmp, less-cmp, compared}
-use Rattle.cayley.proofs.Lists.Each.{no_both}
+use Rattle.int_vectors.proofs.Each.{no_both}
 use Rattle.cayley.proofs.Searching.Counting as counting
 use Rattle.cayley.specs.Stored.{cells_of}
 use Rattle.searcher.specs.Searches.{NeverFalls}

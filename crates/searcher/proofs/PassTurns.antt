@@ -16,7 +16,7 @@ use Rattle.cayley.specs.Parents.{IsParent, InChain}
 use Rattle.cayley.specs.Parents.InChain.{here, up}
 use Rattle.cayley.specs.Shares as shares
 use Rattle.cayley.specs.Shares.{IsTrueBranch, InShareOf, GivesSharesOf, IsChildren}
-use Rattle.cayley.proofs.Lists.Each.{each_append}
+use Rattle.int_vectors.proofs.Each.{each_append}
 use Rattle.cayley.proofs.Life.Decisions.{dec_alive, find_begins}
 use Rattle.cayley.proofs.Life.LifeLaws.{life_law}
 use Rattle.cayley.proofs.Searching.Chains.{chain_trans}

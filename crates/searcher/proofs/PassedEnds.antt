@@ -11,13 +11,14 @@ use Rattle.cayley.specs.Flips.{IsOnlyLevel}
 use Rattle.cayley.specs.Lives.{EndsAt}
 use Rattle.cayley.specs.Normals.{Normal, IsNormal}
 use Rattle.cayley.specs.Parents.InChain.{here}
-use Rattle.cayley.proofs.Flipping.Places.{pairs_long, further_bound}
+use Rattle.cayley.proofs.Flipping.Places.{further_bound}
 use Rattle.cayley.proofs.Life.Levels.{before_none_below}
 use Rattle.cayley.proofs.OneCell.CellNormals.{a_normal}
 use Rattle.cayley.proofs.OneCell.CellRows.{InRange}
 use Rattle.cayley.proofs.Order.Lines.{before_trans}
 use Rattle.cayley.proofs.Order.Times.{never_before}
 use Rattle.cayley.proofs.Searching.Members.{has_contains}
+use Rattle.cayley.proofs.Lists.Pairs.{pairs_long}
 use Rattle.crossing.specs.declared.line.WallLine.{WallLine}
 use Rattle.crossing.specs.declared.entry.Entry.{Entry}
 use Rattle.crossing.specs.declared.exit.Exit.{Exit}

@@ -17,7 +17,7 @@ use Rattle.cayley.specs.Flips.{IsOnlyLevel}
 use Rattle.cayley.specs.StoredTies.{Spot}
 use Rattle.cayley.specs.NamedTies.{IsLevelThen, AreFirstTwo}
 use Rattle.cayley.proofs.Order.Times.{same_before, before_same, same_sym, same_self}
-use Rattle.cayley.proofs.Lists.Each.{each_all}
+use Rattle.int_vectors.proofs.Each.{each_all}
 use Rattle.cayley.proofs.OneCell.CellNormals.{a_normal}
 use Rattle.cayley.proofs.Life.LifeLaws.{once_law}
 use Rattle.cayley.proofs.Life.ShownTies.{spots_apart}

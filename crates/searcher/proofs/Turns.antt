@@ -8,13 +8,12 @@ use Rattle.cayley.specs.Problems.{Problem, IsProblem, IsStill}
 use Rattle.cayley.specs.Valid.{IsValidProblem, IsStillProblem}
 use Rattle.cayley.specs.Cells.{Cell, IsOf}
 use Rattle.cayley.specs.Mixed.{IsMixedCell}
-use Rattle.cayley.specs.Lives.{AliveLate}
 use Rattle.cayley.specs.Parents.{IsParent}
 use Rattle.cayley.specs.Shares as shares
 use Rattle.cayley.specs.Shares.{IsTrueBranch, IsOwn, IsChildren, IsLed, GivesShares, GivesSizes, GivesCosts, Solved}
-use Rattle.cayley.proofs.Lists.Each.{each_append}
+use Rattle.int_vectors.proofs.Each.{each_append}
 use Rattle.cayley.proofs.Life.Decisions.{dec_of}
-use Rattle.cayley.proofs.Life.LifeLaws.{child_law, share_law}
+use Rattle.cayley.proofs.Life.LifeLaws.{share_law}
 use Rattle.cayley.proofs.Life.Targets.{target_law}
 use Rattle.cayley.proofs.Searching.Listing.{Has, has-left, has-right, has-map}
 use Rattle.cayley.proofs.Searching.Members.{has_contains, contains_has}
@@ -22,6 +21,7 @@ use Rattle.cayley.proofs.Searching.Shares.{true_of, list_has, no_share}
 use Rattle.cayley.proofs.Searching.Steps.{Keeps, Counts, weight, keeps_step, keeps_drop, inner_falls, drop_falls, counts_step, counts_drop, led_given, led_child, each_in}
 use Rattle.cayley.specs.Stored.{cells_of}
 use Rattle.cayley.proofs.Order.Lined.{each_has}
+use Rattle.cayley.proofs.Life.Exits.{late_children}
 use Rattle.searcher.specs.declared.branches.Branch.{Branch}
 use Rattle.searcher.specs.declared.expansions.Expansion.{Expansion}
 use Rattle.searcher.specs.declared.expansions.Expansion.TheVariants.{Inner, Target, Endless, Stranger}
@@ -40,17 +40,12 @@ well_of p valid = valid.shape.problem
 abbrev pub IsTurn : Problem → shares.Branch → List Cell → List shares.Branch → Type 0
 IsTurn p b own kids = (IsTrueBranch p b × IsOwn (IsMixedCell p) b.cell own × IsChildren p b.cell kids) ⊎ (¬ (IsTrueBranch p b) × (own ≡ []) × (kids ≡ []))
 
--- a cell that never ends has no child
-childless : (p : Problem) → IsProblem p → (cell : Cell) → AliveLate p cell → IsChildren p cell []
-childless p well cell late = (
-  tt,
-  (tt, λ c. ((λ h. absurd (contains_has [] c h)), λ h. absurd ((child_law p cell c well).1 late h))),
 )
 
 pub turn_of : (p : Problem) → IsStillProblem p → (b : Branch) (e : Expansion) → IsExpansion p b e → IsTurn p (branch_of b) (cells_of (found_in e)) (branches_of (opened e))
 turn_of p still b (Inner children) h = inl (h.0.0.2, inr ((λ m. h.0.2 (target_law p b.cell still m)), refl), h.1)
-turn_of p still b (Target found) h = inl (h.0.0.2, inl (h.2, ap (λ c. c ∷ []) h.1), childless p still.problem b.cell h.0.2)
-turn_of p still b Endless h = inl (h.0.2, inr ((λ m. h.3 m.0), refl), childless p still.problem b.cell h.2)
+turn_of p still b (Target found) h = inl (h.0.0.2, inl (h.2, ap (λ c. c ∷ []) h.1), late_children p b.cell still.problem h.0.2)
+turn_of p still b Endless h = inl (h.0.2, inr ((λ m. h.3 m.0), refl), late_children p b.cell still.problem h.2)
 turn_of p still b (Stranger branch) (inl n, e) = inr ((λ t. n (true_of p (branch_of b) t)), refl, refl)
 turn_of p still b (Stranger branch) (inr n, e) = inr (n.1, refl, refl)
 

@@ -10,15 +10,16 @@ use Rattle.cayley.specs.Flips.{lesser, greater}
 use Rattle.cayley.specs.Normals.{Normal, IsNormal, IsLevel, gap}
 use Rattle.cayley.specs.Parents.{ShareOne, DifferInOne, IsParent}
 use Rattle.cayley.specs.Ties.{IsLevelAt, TwoLevel}
-use Rattle.cayley.proofs.Flipping.FlipNeighbours.{NewPoint, new_point, Flat, both_pairs}
-use Rattle.cayley.proofs.Flipping.FlipScenes.{InRange}
-use Rattle.cayley.proofs.Flipping.Neighbours.{level_pair, level_back}
+use Rattle.cayley.proofs.Flipping.FlipNeighbours.{NewPoint, new_point, Flat}
+use Rattle.cayley.proofs.OneCell.Neighbours.{level_pair, level_back}
 use Rattle.cayley.proofs.Life.Decisions.{alive_after, alive_before}
 use Rattle.cayley.proofs.Life.Exits.{precedes_ends}
 use Rattle.cayley.proofs.Life.LifeLaws.{once_law}
 use Rattle.cayley.proofs.OneCell.Gaps.{gap_two}
 use Rattle.cayley.proofs.Order.Proportion.{zero_in_proportion}
 use Rattle.cayley.proofs.Searching.Parents.{precedes_same}
+use Rattle.cayley.proofs.Lists.Pairs.{pairs_together}
+use Rattle.cayley.proofs.OneCell.CellRows.{InRange}
 use Rattle.searcher.specs.Ends.{IsTiedAtBegin, IsTiedAtEnd}
 
 -- the point c of support j is further and level
@@ -146,6 +147,6 @@ module _ (p : Problem) (sigma tau : Cell) (well : IsProblem p) where
           w,
           m.3.1,
           two_across p sigma tau t w
-              (across t w p.supports sigma tau (both_pairs InRange (IsLevel t w) p.supports sigma a.0 m.3.1.1) (both_pairs InRange (IsLevel t w) p.supports tau b.0 m.3.2.1) m.0) moved,
+              (across t w p.supports sigma tau (pairs_together p.supports sigma InRange (IsLevel t w) a.0 m.3.1.1) (pairs_together p.supports tau InRange (IsLevel t w) b.0 m.3.2.1) m.0) moved,
         ),
       )

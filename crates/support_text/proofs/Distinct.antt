@@ -8,7 +8,7 @@ use Rattle.std.proofs.lemmas.Bool.{cases_lt}
 use Rattle.line_text.proofs.TokenLemmas.{neither}
 use Rattle.cayley.specs.Files.{FilePoint}
 use Rattle.cayley.specs.Valid.{AreDistinct}
-use Rattle.cayley.proofs.Lists.Each.{no_both}
+use Rattle.int_vectors.proofs.Each.{no_both}
 use Rattle.support_text.specs.ProblemText.{is_among}
 use Rattle.support_text.proofs.Kept.{KeepsEach}
 

@@ -9,7 +9,7 @@ use Rattle.line_text.specs.Lines.{lines_of, end_line_of}
 use Rattle.cayley.specs.Problems.{Version, version1, version2}
 use Rattle.cayley.specs.Files.{File, FilePoint}
 use Rattle.cayley.specs.Valid.{IsCoordinate, IsStart, IsWithinFile, AreDistinct, IsValidFile}
-use Rattle.cayley.proofs.Lists.Each.{each_append, each_both}
+use Rattle.int_vectors.proofs.Each.{each_append, each_both}
 use Rattle.support_text.specs.Words.{Text, words}
 use Rattle.support_text.specs.Writing.{point_words, support_lines, start_words, start_lines, version_text, problem_lines, problem_text}
 use Rattle.support_text.proofs.Kept.{KeepsEach, IsNewPoint}

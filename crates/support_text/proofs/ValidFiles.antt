@@ -6,7 +6,7 @@ use Rattle.cayley.specs.Problems.{Version}
 use Rattle.cayley.specs.Files.{FilePoint}
 use Rattle.cayley.specs.Valid.{IsStart, IsWithinFile, AreDistinct, IsValidFile}
 use Rattle.line_text.specs.Lines.{Row}
-use Rattle.cayley.proofs.Lists.Each.{each_weaker}
+use Rattle.int_vectors.proofs.Each.{each_weaker}
 use Rattle.support_text.specs.declared.fault.Kind.TheVariants.{Extra, Count, Dim}
 use Rattle.support_text.specs.declared.opening.Opening.{Opening}
 use Rattle.support_text.specs.declared.opening.Opening.TheVariants.{End as Opens_end, Start as Opens_start, Other}

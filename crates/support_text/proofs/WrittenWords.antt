@@ -12,7 +12,7 @@ use Rattle.line_text.proofs.TokenLemmas.{blank_step, mark_step, run_before, no_t
 use Rattle.line_text.proofs.LineLemmas.{no_rows_left}
 use Rattle.line_text.proofs.NumberLemmas.{written_token, written_kept}
 use Rattle.line_text.proofs.WrittenLines.{is_kept, row_before}
-use Rattle.cayley.proofs.Lists.Each.{each_append}
+use Rattle.int_vectors.proofs.Each.{each_append}
 use Rattle.support_text.specs.Words.{Text, words, text_of}
 use Rattle.support_text.proofs.Numbers.{both_are}
 

@@ -111,8 +111,9 @@ fn starts(
     Ok(starts)
 }
 
+/// The word `end` alone in this line.
 #[tactic(auto, unfolding(crate::specs::ProblemText::end_line))]
-fn end_line(line: &mut Line) -> Result<(), TextFault>
+pub fn end_line(line: &mut Line) -> Result<(), TextFault>
     ensures reading { Gives (λ done. tt) result (format.end_line line.old.number (words line.old)) }
     ensures memory { IfErr result (λ e. e ≢ TextFault.OutOfMemory) }
 {

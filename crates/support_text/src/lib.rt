@@ -11,7 +11,7 @@ mod points;
 mod reading;
 mod writing;
 
-pub use endings::end;
+pub use endings::{end, end_line};
 pub use fault::{FormatFault, Kind, TextFault, fault_at};
 pub use lines::{next_line, nothing_more, number, word};
 pub use reading::{no_line, read_problem, read_problem_lines};

@@ -8,9 +8,8 @@ use Rattle.cayley.proofs.Algebra.Dependence.{dependent, scale-zero, length-map}
 use Rattle.cayley.proofs.Algebra.Kernel.{Kills, Kernel, kernel, Independent, Solves, Solution, extend, length-extend, solves_from, kills_from, places, length-places}
 use Rattle.cayley.proofs.Algebra.ScaledInverse.{All_solved, solves_all, solves-scale, solves_all-scale, each_long-scale, product_apart, units, solves-comb, solves-same, at-comb, weigh-units, length-add, length-comb, dot-add, dot-scale, dot-zero}
 use Rattle.int_vectors.specs.Vectors.{weigh, IsZero, scale, Each, dot, at, add, comb}
-use Rattle.int_vectors.proofs.Entries.{length-scale, at-scale, at-add, zero_below, zero_from}
-use Rattle.cayley.proofs.Algebra.RowNormals.{at-zero}
-use Rattle.cayley.proofs.Lists.Each.{map_map}
+use Rattle.int_vectors.proofs.Entries.{length-scale, at-scale, at-add, zero_below, zero_from, at-zero}
+use Rattle.int_vectors.proofs.Each.{map_map}
 
 -- either a solution, or a vector of the kernel
 solve_or : (n : ℕ) (rows : List (List ℤ)) (bs : List ℤ) → length rows ≡ n → Kernel n rows ⊎ Solution n rows bs

@@ -8,7 +8,7 @@ use Rattle.int_vectors.proofs.Weighing.{weigh-append, weigh-scale, weigh-add}
 use Rattle.cayley.proofs.Algebra.Kernel.{Kills, Independent, Solves, solve}
 use Rattle.int_vectors.specs.Vectors.{weigh, IsZero, Each, dot, at, at_place, add, scale}
 use Rattle.int_vectors.proofs.Entries.{zero_from}
-use Rattle.cayley.proofs.Lists.Each.{each_append}
+use Rattle.int_vectors.proofs.Each.{each_append}
 
 -- numbers b at the rows and g at d: the combination is the zero vector
 abbrev pub IsDependency : ℕ → List (List ℤ) → List ℤ → List ℤ → ℤ → Type 0

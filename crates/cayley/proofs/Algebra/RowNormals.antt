@@ -9,7 +9,7 @@ use Rattle.cayley.proofs.Algebra.Kernel.{Kills, Independent, Solves, places, wei
 use Rattle.cayley.proofs.Algebra.ScaledInverse.{inverse, at-comb, dot-add, dot-scale}
 use Rattle.cayley.proofs.Algebra.RowDependencies.{IsDependency}
 use Rattle.int_vectors.specs.Vectors.{weigh, IsZero, scale, Each, dot, at, add, comb, entries_at}
-use Rattle.int_vectors.proofs.Entries.{at-scale, at-add, zero_from}
+use Rattle.int_vectors.proofs.Entries.{at-scale, at-add, zero_from, at-zero}
 use Rattle.cayley.proofs.Algebra.Dependence.{length-map}
 
 -- q <row, v> + d h = 0 for each row with its difference of heights h
@@ -105,11 +105,6 @@ normal_exists n rows hs q er eh l pq ind =
       long = length-vs n i.xs hs i.g q;
       is = normal_rows n i.xs hs i.g q rows hs l (er ∙ sym eh) (λ e. i.right (entries_at e hs) (length-map (λ h. at h e) hs ∙ eh));
     }
-
-pub at-zero : (u : List ℤ) (k : ℕ) → IsZero u → at u k ≡ pos 0
-at-zero [] k z = refl
-at-zero (x ∷ u) zero z = z.0
-at-zero (x ∷ u) (suc k) z = at-zero u k z.1
 
 kills_difference : (rows hs : List (List ℤ)) (q d d' : ℤ) (v v' : List (List ℤ)) (e : ℕ) → pos 0 <ℤ q → length rows ≡ length hs → IsNormalFor rows hs q d v → IsNormalFor rows hs q d' v'
     → Kills rows (add (scale d' (entries_at e v)) (scale (neg_ℤ d) (entries_at e v')))

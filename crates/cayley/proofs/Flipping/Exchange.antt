@@ -9,24 +9,24 @@ use Rattle.cayley.proofs.Order.Lexicographic.{minus_one}
 use Rattle.cayley.proofs.Algebra.Kernel.{Kills}
 use Rattle.cayley.proofs.Algebra.ScaledInverse.{at-comb}
 use Rattle.cayley.proofs.Algebra.RowDependencies.{IsDependency, exchange_back}
-use Rattle.cayley.proofs.Algebra.RowNormals.{at-zero, gap-at}
+use Rattle.cayley.proofs.Algebra.RowNormals.{gap-at}
 use Rattle.cayley.proofs.Order.Lines.{Line, line_at}
-use Rattle.cayley.proofs.OneCell.CellNormals.{rises, length-rises, kills_to, rows_independent, long_rows}
+use Rattle.cayley.proofs.OneCell.CellNormals.{rises, length-rises, kills_to, rows_independent, long_rows, length-edges}
 use Rattle.cayley.proofs.OneCell.CellLines.{lines, rise_line, sum_line, sum_line-at, a_dependency}
-use Rattle.cayley.proofs.Flipping.Neighbours.{potential, gap-potential, each_pair-left, each_pair-right, each_pair-append, edges-append, dot-sub}
+use Rattle.cayley.proofs.OneCell.Neighbours.{potential, gap-potential, each_pair-left, each_pair-right, each_pair-append, edges-append, dot-sub}
 use native.Mathlib.Decide.{dec_lt}
-use Rattle.cayley.proofs.Order.Soon.{each_pair-map}
 use Rattle.cayley.proofs.Flipping.PairOrder.{IsTurned, independent_turned}
 use Rattle.int_vectors.specs.Vectors.{weigh, IsZero, scale, dot, at, sub, comb, entries_at}
-use Rattle.int_vectors.proofs.Entries.{at-scale, at-add}
+use Rattle.int_vectors.proofs.Entries.{at-scale, at-add, at-zero}
 use Rattle.cayley.specs.Problems.{Point, point_at, IsProblem}
 use Rattle.cayley.specs.Times.{Time}
 use Rattle.cayley.specs.Normals.{Normal, height, gap, IsNormal}
 use Rattle.cayley.specs.Cells.{Cell, EachPair, IsOf, IsIndependent}
 use Rattle.cayley.specs.Flips.{lesser, greater, rising}
-use Rattle.cayley.proofs.Flipping.Spots.{Spot, problem_of, with_pair}
+use Rattle.cayley.proofs.Flipping.OneSupport.{OneSupport, problem_of, with_pair}
 use Rattle.cayley.specs.Rows.{edges}
 use Rattle.cayley.proofs.Algebra.Dependence.{length-map}
+use Rattle.cayley.proofs.Lists.Pairs.{pairs_map}
 
 -- ---- the rising order of two positions
 pub lesser_is : (a b : ℕ) → a < b → lesser a b ≡ a
@@ -58,16 +58,16 @@ pub rising_turn : (a b : ℕ) → rising a b ≡ rising b a
 rising_turn a b = ap₂ (λ x y. (x, y)) (lesser_turn a b) (greater_turn a b)
 
 -- ---- all pairs but one
-abbrev pub Others : Spot → (List Point → ℕ → ℕ → Type 0) → Type 0
+abbrev pub Others : OneSupport → (List Point → ℕ → ℕ → Type 0) → Type 0
 Others o P = EachPair o.sb o.cb P × EachPair o.sa o.ca P
 
-pub others_of : (P : List Point → ℕ → ℕ → Type 0) (o : Spot) (x : ℕ × ℕ) → EachPair (o.sb ++ o.s ∷ o.sa) (o.cb ++ x ∷ o.ca) P → Others o P
+pub others_of : (P : List Point → ℕ → ℕ → Type 0) (o : OneSupport) (x : ℕ × ℕ) → EachPair (o.sb ++ o.s ∷ o.sa) (o.cb ++ x ∷ o.ca) P → Others o P
 others_of P o x e = (each_pair-left P o.sb (o.s ∷ o.sa) o.cb (x ∷ o.ca) o.long e, (each_pair-right P o.sb (o.s ∷ o.sa) o.cb (x ∷ o.ca) o.long e).1)
 
-pub here_of : (P : List Point → ℕ → ℕ → Type 0) (o : Spot) (x : ℕ × ℕ) → EachPair (o.sb ++ o.s ∷ o.sa) (o.cb ++ x ∷ o.ca) P → P o.s x.0 x.1
+pub here_of : (P : List Point → ℕ → ℕ → Type 0) (o : OneSupport) (x : ℕ × ℕ) → EachPair (o.sb ++ o.s ∷ o.sa) (o.cb ++ x ∷ o.ca) P → P o.s x.0 x.1
 here_of P o x e = (each_pair-right P o.sb (o.s ∷ o.sa) o.cb (x ∷ o.ca) o.long e).0
 
-pub all_of : (P : List Point → ℕ → ℕ → Type 0) (o : Spot) (x : ℕ × ℕ) → Others o P → P o.s x.0 x.1 → EachPair (o.sb ++ o.s ∷ o.sa) (o.cb ++ x ∷ o.ca) P
+pub all_of : (P : List Point → ℕ → ℕ → Type 0) (o : OneSupport) (x : ℕ × ℕ) → Others o P → P o.s x.0 x.1 → EachPair (o.sb ++ o.s ∷ o.sa) (o.cb ++ x ∷ o.ca) P
 all_of P o x e h = each_pair-append P o.sb (o.s ∷ o.sa) o.cb (x ∷ o.ca) e.0 (h, e.1)
 
 abbrev pub IsOrthogonal : List ℤ → List Point → ℕ → ℕ → Type 0
@@ -100,7 +100,7 @@ abbrev pub threefold : List Point → ℕ → ℕ → ℕ → ℤ → ℤ → �
 threefold s x y z lx ly lz f = lx *ℤ f (point_at s x) +ℤ ly *ℤ f (point_at s y) +ℤ lz *ℤ f (point_at s z)
 
 -- a dependency on the pairs of all other supports and three points of this one, and the line of its sum
-pub record Circuit (o : Spot) (x y z : ℕ) : Type 0 where
+pub record Circuit (o : OneSupport) (x y z : ℕ) : Type 0 where
   pub xs : List ℤ
   pub ys : List ℤ
   pub lx : ℤ
@@ -115,7 +115,7 @@ pub record Circuit (o : Spot) (x y z : ℕ) : Type 0 where
       → at (line_at line t) e ≡ weigh xs (rises t o.sb o.cb) (λ h. at h e) +ℤ weigh ys (rises t o.sa o.ca) (λ h. at h e) +ℤ threefold o.s x y z lx ly lz (λ p. at (height t p) e)
 
 -- the three points may be named in any order
-unfoldable pub turn : (o : Spot) (x y z : ℕ) → Circuit o x y z → Circuit o y x z
+unfoldable pub turn : (o : OneSupport) (x y z : ℕ) → Circuit o x y z → Circuit o y x z
 turn o x y z k = record {
   xs = k.xs;
   ys = k.ys;
@@ -129,7 +129,7 @@ turn o x y z k = record {
   value = λ t e. let f = k.value t e in omega (arith, ints, f);
 }
 
-unfoldable pub cycle : (o : Spot) (x y z : ℕ) → Circuit o x y z → Circuit o y z x
+unfoldable pub cycle : (o : OneSupport) (x y z : ℕ) → Circuit o x y z → Circuit o y z x
 cycle o x y z k = record {
   xs = k.xs;
   ys = k.ys;
@@ -161,7 +161,7 @@ opposite-at l t e =
     step m q a b x = rw (as_D m, as_D q, as_D a, as_D b, as_D x) (simp Ds (same_D _ _ _ _ (omega arith)))
 
 -- all numbers with the other sign
-unfoldable pub negate : (o : Spot) (x y z : ℕ) → Circuit o x y z → Circuit o x y z
+unfoldable pub negate : (o : OneSupport) (x y z : ℕ) → Circuit o x y z → Circuit o x y z
 negate o x y z k =
     let m = neg_ℤ (pos 1) in record {
       xs = scale m k.xs;
@@ -197,7 +197,7 @@ negate o x y z k =
     step lx ly lz a b x y z a' b' e f = rw (e ∙ minus_one a, f ∙ minus_one b) (ring lx ly lz a b x y z)
 
 -- ---- what a circuit says where the other pairs are level
-module _ (o : Spot) (x y z : ℕ) (k : Circuit o x y z) where
+module _ (o : OneSupport) (x y z : ℕ) (k : Circuit o x y z) where
   pub by_potentials : (t : Time) (v : Normal) → length v.entries ≡ o.n → Others o (λ s a b. IsZero (gap t v (point_at s a) (point_at s b))) → (e : ℕ)
       → v.over *ℤ at (line_at k.line t) e ≡ threefold o.s x y z k.lx k.ly k.lz (λ p. potential t v p e)
   unfolding potential
@@ -262,19 +262,19 @@ by_rising P x y apart f g =
       | no n ↦ let l : y < x = omega (arith, n, apart) in subst P (sym (rising_turn x y ∙ rising_is y x l)) (g l)
     ]
 
-pub independent_turned_at : (o : Spot) (x y : ℕ) → IsIndependent (problem_of o) (with_pair o (x, y)) → IsIndependent (problem_of o) (with_pair o (y, x))
+pub independent_turned_at : (o : OneSupport) (x y : ℕ) → IsIndependent (problem_of o) (with_pair o (x, y)) → IsIndependent (problem_of o) (with_pair o (y, x))
 independent_turned_at o x y = independent_turned (problem_of o) (with_pair o (x, y)) (with_pair o (y, x)) (turned_at o.cb o.ca x y)
 
-pub independent_rising : (o : Spot) (x y : ℕ) → x ≢ y → IsIndependent (problem_of o) (with_pair o (x, y)) → IsIndependent (problem_of o) (with_pair o (rising x y))
+pub independent_rising : (o : OneSupport) (x y : ℕ) → x ≢ y → IsIndependent (problem_of o) (with_pair o (x, y)) → IsIndependent (problem_of o) (with_pair o (rising x y))
 independent_rising o x y apart i =
     by_rising (λ q. IsIndependent (problem_of o) (with_pair o q)) x y apart (λ l. i) (λ l. independent_turned (problem_of o) (with_pair o (x, y)) (with_pair o (y, x)) (turned_at o.cb o.ca x y) i)
 
-pub independent_unrising : (o : Spot) (x y : ℕ) → x ≢ y → IsIndependent (problem_of o) (with_pair o (rising x y)) → IsIndependent (problem_of o) (with_pair o (x, y))
+pub independent_unrising : (o : OneSupport) (x y : ℕ) → x ≢ y → IsIndependent (problem_of o) (with_pair o (rising x y)) → IsIndependent (problem_of o) (with_pair o (x, y))
 independent_unrising o x y apart =
     by_rising (λ q. IsIndependent (problem_of o) (with_pair o q) → IsIndependent (problem_of o) (with_pair o (x, y))) x y apart (λ l i. i) (λ l i. independent_turned (problem_of o) (with_pair o (y, x)) (with_pair o (x, y)) (turned_at o.cb o.ca y x) i)
 
 -- ---- exchange
-module _ (o : Spot) (x y z : ℕ) (k : Circuit o x y z) where
+module _ (o : OneSupport) (x y z : ℕ) (k : Circuit o x y z) where
   pub exchange_to : IsIndependent (problem_of o) (with_pair o (x, y)) → k.ly ≢ pos 0 → IsIndependent (problem_of o) (with_pair o (x, z))
   exchange_to ind some w l e =
       let a = others_of (IsOrthogonal w) o (x, z) e in
@@ -320,26 +320,20 @@ module _ (o : Spot) (x y z : ℕ) (k : Circuit o x y z) where
   pub exchange_from : (P : List Point → ℕ → ℕ → Type 0) → Others o P → IsProblem (problem_of o) → k.lz ≢ pos 0 → IsIndependent (problem_of o) (with_pair o (x, z)) → k.ly ≢ pos 0
   exchange_from P e well some ind =
       exchange_back o.n (edges o.sb o.cb) (edges o.sa o.ca) (sub (point_at o.s y).coordinates (point_at o.s x).coordinates) (sub (point_at o.s z).coordinates (point_at o.s x).coordinates) k.xs k.ys k.ly k.lz k.long rows_dep some
-      (sym (ap length same) ∙ length_edges (o.sb ++ o.s ∷ o.sa) (o.cb ++ (x, z) ∷ o.ca) _ (all_of (λ s a b. Unit {0}) o (x, z) (each_unit o.sb o.cb e.0, each_unit o.sa o.ca e.1) tt) ∙ well.supports)
+      (sym (ap length same) ∙ length-edges (o.sb ++ o.s ∷ o.sa) (o.cb ++ (x, z) ∷ o.ca) _ (all_of (λ s a b. Unit {0}) o (x, z) (each_unit o.sb o.cb e.0, each_unit o.sa o.ca e.1) tt) ∙ well.supports)
       (λ v l q. ind v l (orthogonal_of (o.sb ++ o.s ∷ o.sa) (o.cb ++ (x, z) ∷ o.ca) v _ (all_of (λ s a b. Unit {0}) o (x, z) (each_unit o.sb o.cb e.0, each_unit o.sa o.ca e.1) tt) (subst (λ r. Kills r v) (sym same) q)))
     where
       same : edges (o.sb ++ o.s ∷ o.sa) (o.cb ++ (x, z) ∷ o.ca) ≡ edges o.sb o.cb ++ sub (point_at o.s z).coordinates (point_at o.s x).coordinates ∷ edges o.sa o.ca
       same = edges-append o.sb (o.s ∷ o.sa) o.cb ((x, z) ∷ o.ca) o.long
 
       each_unit : (supports : List (List Point)) (cell : Cell) → EachPair supports cell P → EachPair supports cell (λ s a b. Unit {0})
-      each_unit supports cell f = each_pair-map supports cell P (λ s a b. Unit {0}) (λ s a b h. tt) f
-
-      length_edges : (supports : List (List Point)) (cell : Cell) (P : List Point → ℕ → ℕ → Type 0) → EachPair supports cell P → length (edges supports cell) ≡ length supports
-      length_edges [] [] P e = refl
-      length_edges [] (pair ∷ cell) P e = absurd e
-      length_edges (s ∷ supports) [] P e = absurd e
-      length_edges (s ∷ supports) (pair ∷ cell) P e = ap suc (length_edges supports cell P e.1)
+      each_unit supports cell f = pairs_map supports cell P (λ s a b. Unit {0}) (λ s a b h. tt) f
 
       orthogonal_of : (supports : List (List Point)) (cell : Cell) (v : List ℤ) (P : List Point → ℕ → ℕ → Type 0) → EachPair supports cell P → Kills (edges supports cell) v → EachPair supports cell (IsOrthogonal v)
       orthogonal_of supports cell v P = kills_to supports cell v P
 
 -- the cell with z in place of y, in rising order, is independent exactly where the number at y isn't zero
-pub exchange_independent : (o : Spot) (x y z : ℕ) (k : Circuit o x y z) → IsProblem (problem_of o) → (P : List Point → ℕ → ℕ → Type 0) → Others o P → x ≢ z → k.lz ≢ pos 0
+pub exchange_independent : (o : OneSupport) (x y z : ℕ) (k : Circuit o x y z) → IsProblem (problem_of o) → (P : List Point → ℕ → ℕ → Type 0) → Others o P → x ≢ z → k.lz ≢ pos 0
     → IsIndependent (problem_of o) (with_pair o (x, y)) → IsIndependent (problem_of o) (with_pair o (rising x z)) ↔ (k.ly ≢ pos 0)
 exchange_independent o x y z k well P e apart some ind = (
   (λ i. exchange_from o x y z k P e well some (independent_unrising o x z apart i)),
@@ -382,7 +376,7 @@ rises-append t [] sa (x ∷ cb) ca l = absurd (omega arith)
 rises-append t (s ∷ sb) sa [] ca l = absurd (omega arith)
 rises-append t (s ∷ sb) sa (x ∷ cb) ca l = ap (λ l. sub (height t (point_at s x.1)) (height t (point_at s x.0)) ∷ l) (rises-append t sb sa cb ca (omega arith))
 
-module _ (o : Spot) (x y z : ℕ) (xs ys : List ℤ) (b g : ℤ) (long : length xs ≡ length (edges o.sb o.cb))
+module _ (o : OneSupport) (x y z : ℕ) (xs ys : List ℤ) (b g : ℤ) (long : length xs ≡ length (edges o.sb o.cb))
     (dep : IsDependency o.n (edges (o.sb ++ o.s ∷ o.sa) (o.cb ++ (x, y) ∷ o.ca)) (sub (point_at o.s z).coordinates (point_at o.s x).coordinates) (xs ++ b ∷ ys) g) where
   unfoldable pub circuit_of : Circuit o x y z
   circuit_of = record {
@@ -430,11 +424,11 @@ module _ (o : Spot) (x y z : ℕ) (xs ys : List ℤ) (b g : ℤ) (long : length 
       at-sub u v e = at-add u (scale (neg_ℤ (pos 1)) v) e ∙ ap (λ q. at u e +ℤ q) (at-scale (neg_ℤ (pos 1)) v e ∙ minus_one (at v e))
 
 -- an independent cell and a further point have a circuit that is positive at the point
-pub record PositiveCircuit (o : Spot) (x y z : ℕ) : Type 0 where
+pub record PositiveCircuit (o : OneSupport) (x y z : ℕ) : Type 0 where
   pub circuit : Circuit o x y z
   pub positive : pos 0 <ℤ circuit.lz
 
-pub a_circuit : (o : Spot) (x y z : ℕ) → IsProblem (problem_of o) → IsOf (problem_of o) (with_pair o (x, y)) → IsIndependent (problem_of o) (with_pair o (x, y)) → PositiveCircuit o x y z
+pub a_circuit : (o : OneSupport) (x y z : ℕ) → IsProblem (problem_of o) → IsOf (problem_of o) (with_pair o (x, y)) → IsIndependent (problem_of o) (with_pair o (x, y)) → PositiveCircuit o x y z
 unfolding circuit_of
 a_circuit o x y z well of ind =
     let p = problem_of o in

@@ -12,14 +12,15 @@ use Rattle.cayley.specs.Dependencies.{pair_at, nth_support}
 use Rattle.cayley.specs.Ties.{IsLevelAt}
 use Rattle.cayley.specs.Flips.{IsOnlyLevel}
 use Rattle.cayley.specs.FlipLaws.{ChildrenLaw}
-use Rattle.cayley.proofs.Flipping.Spots.{problem_of, with_pair, OnlyLevel}
-use Rattle.cayley.proofs.Flipping.Places.{at_place_of, pairs_long, further_bound, place_of, level_point_of, only_by_places}
+use Rattle.cayley.proofs.Flipping.OneSupport.{problem_of, with_pair, OnlyLevel}
+use Rattle.cayley.proofs.Flipping.Places.{at_place_of, further_bound, place_of, level_point_of, only_by_places}
 use Rattle.cayley.proofs.OneCell.OneNormal.{all_above_any}
 use Rattle.cayley.proofs.Life.Ends.{ends_at_once}
 use Rattle.cayley.proofs.Life.Exits.{precedes_ends}
 use Rattle.cayley.proofs.Searching.Parents.{precedes_same}
 use Rattle.cayley.proofs.Flipping.FlipParents.{has_parent}
 use Rattle.cayley.proofs.Flipping.FlipPlaces.{flip_law}
+use Rattle.cayley.proofs.Lists.Pairs.{pairs_long}
 
 -- a cell with a level further point isn't alive
 pub level_dead : (p : Problem) (cell : Cell) (t : Time) (v : Normal) (j c : ℕ) → IsProblem p → IsNormal p cell t v → IsLevelAt p cell t v j c → ¬ (IsAlive p cell t)

@@ -3,11 +3,10 @@ use Rattle.std.proofs.Common.{◌≡◌, ◌⊎◌, ℕ, ◌<◌, List, [], ◌�
 use Rattle.std.proofs.Math.IntN.{pos}
 use native.Mathlib.Decide.{ℕ_discrete}
 use Rattle.cayley.proofs.Life.Decisions.{alive_after, alive_before}
-use Rattle.cayley.proofs.Flipping.Neighbours.{level_pair, level_back}
+use Rattle.cayley.proofs.OneCell.Neighbours.{level_pair, level_back}
 use Rattle.cayley.proofs.OneCell.CellLines.{point_line}
-use Rattle.cayley.proofs.Order.Soon.{each_pair-map}
 use Rattle.cayley.proofs.Flipping.Exchange.{others_of, here_of, turn, cycle, by_rising, rising_is, rising_turn}
-use Rattle.cayley.proofs.Flipping.FlipScenes.{InRange, IsLevel, FurtherAbove, Scene, turn_scene, cycle_scene, other_scene, of_scene, normal_scene}
+use Rattle.cayley.proofs.Flipping.FlipScenes.{IsLevel, FurtherAbove, Scene, turn_scene, cycle_scene, other_scene, of_scene, normal_scene}
 use Rattle.cayley.proofs.Flipping.FlipSides.{rising_after, rising_before}
 use Rattle.int_vectors.specs.Vectors.{IsPositive}
 use Rattle.int_vectors.proofs.Entries.{not_zero}
@@ -18,8 +17,10 @@ use Rattle.cayley.specs.Cells.{Cell, EachPair, IsOf, IsIndependent, IsFurther}
 use Rattle.cayley.specs.Lives.{AliveJustAfter, AliveJustBefore}
 use Rattle.cayley.specs.Parents.{Precedes, ShareOne, DifferInOne}
 use Rattle.cayley.specs.Flips.{rising}
-use Rattle.cayley.proofs.Flipping.Spots.{Spot, problem_of, with_pair}
+use Rattle.cayley.proofs.Flipping.OneSupport.{OneSupport, problem_of, with_pair}
 use Rattle.cayley.proofs.Life.Exits.{differ_sym}
+use Rattle.cayley.proofs.Lists.Pairs.{pairs_map, pairs_together}
+use Rattle.cayley.proofs.OneCell.CellRows.{InRange}
 
 -- the point that is new in a pair that has one point of another
 pub record NewPoint (t : Time) (w : Normal) (s : List Point) (a b : ℕ) (pair : ℕ × ℕ) : Type 0 where
@@ -93,13 +94,7 @@ changed t w (r ∷ sb) s sa (z ∷ cb) x ca (y ∷ tau) e f g (inr d) =
     let q = changed t w sb s sa cb x ca tau e.1 f g.1 d.1 in
     record { y = q.y; tau_is = ap₂ (λ i l. i ∷ l) (sym d.0) q.tau_is; share = q.share; flat = q.flat }
 
-pub both_pairs : (P Q : List Point → ℕ → ℕ → Type 0) (supports : List (List Point)) (cell : Cell) → EachPair supports cell P → EachPair supports cell Q → EachPair supports cell (λ s a b. P s a b × Q s a b)
-both_pairs P Q [] [] e f = e
-both_pairs P Q [] (x ∷ cell) e f = e
-both_pairs P Q (s ∷ supports) [] e f = e
-both_pairs P Q (s ∷ supports) (x ∷ cell) e f = ((e.0, f.0), both_pairs P Q supports cell e.1 f.1)
-
-module _ (o : Spot) (t : Time) (x y z : ℕ) (c : Scene o t x y z) (less : x < y) (ind : IsIndependent (problem_of o) (with_pair o (x, y))) (w : Normal) (is : IsNormal (problem_of o) (with_pair o (x, y)) t w) where
+module _ (o : OneSupport) (t : Time) (x y z : ℕ) (c : Scene o t x y z) (less : x < y) (ind : IsIndependent (problem_of o) (with_pair o (x, y))) (w : Normal) (is : IsNormal (problem_of o) (with_pair o (x, y)) t w) where
   -- above at one normal, above at the other
   carried : (p q : Point) → IsPositive (gap t c.v p q) → IsPositive (gap t w p q)
   carried p q h =
@@ -108,16 +103,16 @@ module _ (o : Spot) (t : Time) (x y z : ℕ) (c : Scene o t x y z) (less : x < y
 
   tight : (supports : List (List Point)) (cell : Cell) → EachPair supports cell InRange → EachPair supports cell (IsLevel t w) → EachPair supports cell (FurtherAbove t c.v) → EachPair supports cell (Tight t w)
   tight supports cell a b d =
-      both_pairs InRange (λ s a b. IsLevel t w s a b × FurtherAbove t w s a b) supports cell a
-      (both_pairs (IsLevel t w) (FurtherAbove t w) supports cell b
-      (each_pair-map supports cell (FurtherAbove t c.v) (FurtherAbove t w) (λ s a b h f i. carried (point_at s a) (point_at s f) (h f i)) d))
+      pairs_together supports cell InRange (λ s a b. IsLevel t w s a b × FurtherAbove t w s a b) a
+      (pairs_together supports cell (IsLevel t w) (FurtherAbove t w) b
+      (pairs_map supports cell (FurtherAbove t c.v) (FurtherAbove t w) (λ s a b h f i. carried (point_at s a) (point_at s f) (h f i)) d))
 
   pub neighbour : (tau : Cell) → IsOf (problem_of o) tau → IsNormal (problem_of o) tau t w → DifferInOne (with_pair o (x, y)) tau
       → (tau ≡ with_pair o (rising x z)) ⊎ (tau ≡ with_pair o (rising y z))
   neighbour tau of it d =
       let l = others_of (IsLevel t w) o (x, y) is.1 in
       let q = changed t w o.sb o.s o.sa o.cb (x, y) o.ca tau (tight o.sb o.cb c.range.0 l.0 c.others_above.0) (tight o.sa o.ca c.range.1 l.1 c.others_above.1)
-      (both_pairs InRange (IsLevel t w) (o.sb ++ o.s ∷ o.sa) tau of it.1) d in
+      (pairs_together (o.sb ++ o.s ∷ o.sa) tau InRange (IsLevel t w) of it.1) d in
       let n = new_point t w o.s x y q.y.0 q.y.1 (c.in_x.0, less, c.in_y.1) (here_of (IsLevel t w) o (x, y) is.1) q.flat.0 q.flat.1 q.share in
       let fz : n.f ≡ z = elim (ℕ_discrete n.f z) [
         | yes e ↦ e
@@ -132,7 +127,7 @@ pub swap_sum : {A B : Type 0} → A ⊎ B → B ⊎ A
 swap_sum (inl a) = inr a
 swap_sum (inr b) = inl b
 
-pub neighbour_rising : (o : Spot) (t : Time) (x y z : ℕ) (c : Scene o t x y z) (tau : Cell) → IsIndependent (problem_of o) (with_pair o (rising x y)) → IsOf (problem_of o) tau → DifferInOne (with_pair o (rising x y)) tau
+pub neighbour_rising : (o : OneSupport) (t : Time) (x y z : ℕ) (c : Scene o t x y z) (tau : Cell) → IsIndependent (problem_of o) (with_pair o (rising x y)) → IsOf (problem_of o) tau → DifferInOne (with_pair o (rising x y)) tau
     → (w : Normal) → IsNormal (problem_of o) (with_pair o (rising x y)) t w → IsNormal (problem_of o) tau t w → (tau ≡ with_pair o (rising x z)) ⊎ (tau ≡ with_pair o (rising y z))
 neighbour_rising o t x y z c tau =
     by_rising (λ q. IsIndependent (problem_of o) (with_pair o q) → IsOf (problem_of o) tau → DifferInOne (with_pair o q) tau
@@ -142,7 +137,7 @@ neighbour_rising o t x y z c tau =
 
 -- alive somewhere
 -- the other two pairs of the scene, with the sign of the point each leaves out
-pub successors_of : (o : Spot) (t : Time) (x y z : ℕ) (c : Scene o t x y z) (tau : Cell) → Precedes (problem_of o) (with_pair o (rising x y)) tau t
+pub successors_of : (o : OneSupport) (t : Time) (x y z : ℕ) (c : Scene o t x y z) (tau : Cell) → Precedes (problem_of o) (with_pair o (rising x y)) tau t
     → ((tau ≡ with_pair o (rising x z)) × (c.circuit.ly <ℤ pos 0)) ⊎ ((tau ≡ with_pair o (rising y z)) × (c.circuit.lx <ℤ pos 0))
 unfolding other_scene turn_scene cycle_scene turn cycle
 successors_of o t x y z c tau h =
@@ -153,7 +148,7 @@ successors_of o t x y z c tau h =
       | inr e ↦ inr (e, rising_after o t y z x (cycle_scene o t x y z c) (subst (λ i. AliveJustAfter (problem_of o) i t) e h.2))
     ]
 
-pub predecessors_of : (o : Spot) (t : Time) (x y z : ℕ) (c : Scene o t x y z) (rho : Cell) → Precedes (problem_of o) rho (with_pair o (rising x y)) t
+pub predecessors_of : (o : OneSupport) (t : Time) (x y z : ℕ) (c : Scene o t x y z) (rho : Cell) → Precedes (problem_of o) rho (with_pair o (rising x y)) t
     → ((rho ≡ with_pair o (rising x z)) × (pos 0 <ℤ c.circuit.ly)) ⊎ ((rho ≡ with_pair o (rising y z)) × (pos 0 <ℤ c.circuit.lx))
 unfolding other_scene turn_scene cycle_scene turn cycle
 predecessors_of o t x y z c rho h =

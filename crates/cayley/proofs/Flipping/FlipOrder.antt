@@ -4,13 +4,13 @@ use native.Mathlib.Decide.{dec_lt}
 use Rattle.cayley.proofs.Searching.Listing.{less_trans}
 use Rattle.std.proofs.Math.IntN.{ℤ, pos}
 use Rattle.cayley.proofs.Flipping.Exchange.{rising_is, rising_turn}
-use Rattle.cayley.proofs.Flipping.FlipScenes.{InRange}
 use Rattle.cayley.proofs.Flipping.Places.{place_of}
 use Rattle.cayley.specs.Problems.{Problem}
 use Rattle.cayley.specs.Cells.{Cell, IsOf, IsLess}
 use Rattle.cayley.specs.Flips.{rising, put_pair, for_first, for_second, IsPredecessorAt}
 use Rattle.cayley.specs.Dependencies.{pair_at, IsFurtherAt}
 use Rattle.cayley.proofs.Searching.Parents.{less_irrefl}
+use Rattle.cayley.proofs.OneCell.CellRows.{InRange}
 
 abbrev PairLess : ℕ × ℕ → ℕ × ℕ → Type 0
 PairLess x y = (x.0 < y.0) ⊎ ((x.0 ≡ y.0) × (x.1 < y.1))

@@ -4,7 +4,7 @@ use Rattle.std.proofs.lemmas.Int.{ints}
 use Rattle.std.proofs.Math.IntN.{pos}
 use Rattle.wide_int.proofs.Order.{sign_cases}
 use Rattle.cayley.proofs.Flipping.Exchange.{here_of, Circuit, turn, cycle, negate, rising_is, rising_turn, a_circuit}
-use Rattle.cayley.proofs.Flipping.FlipScenes.{InRange, Scene, turn_scene, cycle_scene, other_scene}
+use Rattle.cayley.proofs.Flipping.FlipScenes.{Scene, turn_scene, cycle_scene, other_scene}
 use Rattle.cayley.proofs.Flipping.FlipSides.{rises_where_after, precedes_scene}
 use Rattle.cayley.proofs.Life.Decisions.{alive_after}
 use Rattle.cayley.proofs.Flipping.FlipSpots.{scene_of, line_level}
@@ -15,9 +15,10 @@ use Rattle.cayley.specs.Cells.{Cell}
 use Rattle.cayley.specs.Lives.{AliveJustAfter, BeginsAt}
 use Rattle.cayley.specs.Parents.{Precedes, IsParent}
 use Rattle.cayley.specs.Flips.{rising}
-use Rattle.cayley.proofs.Flipping.Spots.{Spot, problem_of, with_pair, LevelPoint, IsSuccessor}
+use Rattle.cayley.proofs.Flipping.OneSupport.{OneSupport, problem_of, with_pair, LevelPoint, IsSuccessor}
+use Rattle.cayley.proofs.OneCell.CellRows.{InRange}
 
-module _ (o : Spot) (t : Time) (a b c : ℕ) (well : IsProblem (problem_of o)) (after : AliveJustAfter (problem_of o) (with_pair o (a, b)) t)
+module _ (o : OneSupport) (t : Time) (a b c : ℕ) (well : IsProblem (problem_of o)) (after : AliveJustAfter (problem_of o) (with_pair o (a, b)) t)
     (l : LevelPoint o a b c t) (k : Circuit o a b c) (plus : pos 0 <ℤ k.lz) where
   falls_turned : pos 0 <ℤ k.line.slope → (negate o a b c k).line.slope <ℤ pos 0
   unfolding negate
@@ -60,7 +61,7 @@ module _ (o : Spot) (t : Time) (a b c : ℕ) (well : IsProblem (problem_of o)) (
       (λ m. (y, preceded_by y (inr (refl, omega (arith, ints, s, p, m)))))
 
 -- a cell that begins at t with one level point has a parent
-pub has_parent : (o : Spot) (t : Time) (a b c : ℕ) → IsProblem (problem_of o) → BeginsAt (problem_of o) (with_pair o (a, b)) t → LevelPoint o a b c t → (rho : Cell) × IsParent (problem_of o) rho (with_pair o (a, b))
+pub has_parent : (o : OneSupport) (t : Time) (a b c : ℕ) → IsProblem (problem_of o) → BeginsAt (problem_of o) (with_pair o (a, b)) t → LevelPoint o a b c t → (rho : Cell) × IsParent (problem_of o) rho (with_pair o (a, b))
 has_parent o t a b c well begins l =
     let h = (alive_after (problem_of o) (with_pair o (a, b)) t begins.0).1 in
     let k = a_circuit o a b c well h.0 h.1 in

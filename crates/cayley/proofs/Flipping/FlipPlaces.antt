@@ -3,11 +3,10 @@ use Rattle.std.proofs.Common.{◌≡◌, ◌≢◌, ◌↔◌, ℕ, length, arit
 use Rattle.std.proofs.lemmas.Int.{ints}
 use Rattle.std.proofs.Math.IntN.{pos}
 use Rattle.cayley.proofs.Flipping.Exchange.{others_of, turn, exchange_independent, independent_turned_at}
-use Rattle.cayley.proofs.Flipping.FlipScenes.{InRange}
-use Rattle.cayley.proofs.Flipping.Places.{at_place_of, pairs_long, only_level_place, pair_at_spot, put_pair_spot, support_at_spot, level_point_of, further_bound, only_by_places}
+use Rattle.cayley.proofs.Flipping.Places.{at_place_of, only_level_place, pair_at_spot, put_pair_spot, support_at_spot, level_point_of, further_bound, only_by_places}
 use Rattle.cayley.proofs.Life.Levels.{before_none_below}
 use Rattle.cayley.proofs.Flipping.FlipSpots.{successors_are, predecessors_are, crosses, successor_begins, parent_is}
-use Rattle.cayley.proofs.OneCell.CellNumbers.{circuit_of_numbers}
+use Rattle.cayley.proofs.Flipping.CellNumbers.{circuit_of_numbers}
 use Rattle.cayley.specs.Problems.{Problem, point_at, IsProblem}
 use Rattle.cayley.specs.Times.{Time}
 use Rattle.cayley.specs.Normals.{Normal, IsNormal, NoneBelow}
@@ -15,23 +14,25 @@ use Rattle.cayley.specs.Cells.{Cell, IsOf, IsIndependent, IsFurther}
 use Rattle.cayley.specs.Lives.{AliveJustBefore}
 use Rattle.cayley.specs.Dependencies.{Numbers, IsDependencyWith, number_at, pair_at, IsFurtherAt, IsPositiveDependency, nth_support}
 use Rattle.cayley.specs.Flips.{rising, put_pair, for_first, for_second, IsSuccessorAt, IsPredecessorAt, Flips}
-use Rattle.cayley.proofs.Flipping.Spots.{Spot, problem_of, with_pair, OnlyLevel, IsSuccessor, IsPredecessor}
+use Rattle.cayley.proofs.Flipping.OneSupport.{OneSupport, problem_of, with_pair, OnlyLevel, IsSuccessor, IsPredecessor}
 use Rattle.cayley.specs.Laws.{Exchange}
 use Rattle.cayley.specs.FlipLaws.{FlipLaw}
+use Rattle.cayley.proofs.Lists.Pairs.{pairs_long}
+use Rattle.cayley.proofs.OneCell.CellRows.{InRange}
 
 -- the two cells by place are those by spot
-for_first_spot : (o : Spot) (x : ℕ × ℕ) (c : ℕ) → for_first (with_pair o x) (length o.cb) c ≡ with_pair o (rising x.1 c)
+for_first_spot : (o : OneSupport) (x : ℕ × ℕ) (c : ℕ) → for_first (with_pair o x) (length o.cb) c ≡ with_pair o (rising x.1 c)
 for_first_spot o x c = ap (λ i. put_pair (with_pair o x) (length o.cb) (rising i.1 c)) (pair_at_spot o.cb o.ca x) ∙ put_pair_spot o.cb o.ca x (rising x.1 c)
 
-for_second_spot : (o : Spot) (x : ℕ × ℕ) (c : ℕ) → for_second (with_pair o x) (length o.cb) c ≡ with_pair o (rising x.0 c)
+for_second_spot : (o : OneSupport) (x : ℕ × ℕ) (c : ℕ) → for_second (with_pair o x) (length o.cb) c ≡ with_pair o (rising x.0 c)
 for_second_spot o x c = ap (λ i. put_pair (with_pair o x) (length o.cb) (rising i.0 c)) (pair_at_spot o.cb o.ca x) ∙ put_pair_spot o.cb o.ca x (rising x.0 c)
 
-dependency_spot : (o : Spot) (x : ℕ × ℕ) (c : ℕ) (numbers : Numbers) → IsDependencyWith (problem_of o) (with_pair o x) (length o.cb) (point_at (nth_support (problem_of o).supports (length o.cb)) c) numbers
+dependency_spot : (o : OneSupport) (x : ℕ × ℕ) (c : ℕ) (numbers : Numbers) → IsDependencyWith (problem_of o) (with_pair o x) (length o.cb) (point_at (nth_support (problem_of o).supports (length o.cb)) c) numbers
     → IsDependencyWith (problem_of o) (with_pair o x) (length o.cb) (point_at o.s c) numbers
 dependency_spot o x c numbers = subst (λ s. IsDependencyWith (problem_of o) (with_pair o x) (length o.cb) (point_at s c) numbers) (support_at_spot o.sb o.s o.sa o.cb o.long)
 
 -- exchange at a spot
-exchange_spot : (o : Spot) (x : ℕ × ℕ) (c : ℕ) (numbers : Numbers) → IsProblem (problem_of o) → IsOf (problem_of o) (with_pair o x) → IsIndependent (problem_of o) (with_pair o x)
+exchange_spot : (o : OneSupport) (x : ℕ × ℕ) (c : ℕ) (numbers : Numbers) → IsProblem (problem_of o) → IsOf (problem_of o) (with_pair o x) → IsIndependent (problem_of o) (with_pair o x)
     → IsFurtherAt (problem_of o) (with_pair o x) (length o.cb) c → IsPositiveDependency (problem_of o) (with_pair o x) (length o.cb) c numbers
     → (IsIndependent (problem_of o) (for_first (with_pair o x) (length o.cb) c) ↔ ((number_at numbers.pairs (length o.cb)).0 ≢ pos 0))
     × (IsIndependent (problem_of o) (for_second (with_pair o x) (length o.cb) c) ↔ ((number_at numbers.pairs (length o.cb)).1 ≢ pos 0))
@@ -59,7 +60,7 @@ exchange_law p cell j c numbers well of ind further d =
     well of ind further d
 
 -- the law of flips at a spot
-flips_spot : (o : Spot) (x : ℕ × ℕ) (c : ℕ) (numbers : Numbers) (t : Time) (v : Normal) → IsProblem (problem_of o) → AliveJustBefore (problem_of o) (with_pair o x) t
+flips_spot : (o : OneSupport) (x : ℕ × ℕ) (c : ℕ) (numbers : Numbers) (t : Time) (v : Normal) → IsProblem (problem_of o) → AliveJustBefore (problem_of o) (with_pair o x) t
     → IsNormal (problem_of o) (with_pair o x) t v → OnlyLevel (problem_of o).supports (with_pair o x) (length o.cb) c t v → NoneBelow (problem_of o) (with_pair o x) t v
     → IsPositiveDependency (problem_of o) (with_pair o x) (length o.cb) c numbers → Flips (problem_of o) (with_pair o x) (length o.cb) c (number_at numbers.pairs (length o.cb)) t
 flips_spot o x c numbers t v well before is only none d =

@@ -6,24 +6,22 @@ use native.Mathlib.Decide.{ℕ_discrete}
 use Rattle.wide_int.proofs.Ring.{as_D, Ds, same_D}
 use Rattle.wide_int.proofs.Order.{zero_product}
 use Rattle.cayley.proofs.Order.Proportion.{in_proportion, zero_in_proportion}
-use Rattle.cayley.proofs.Algebra.RowNormals.{at-zero}
 use Rattle.cayley.proofs.Order.Lines.{Line, line_at}
-use Rattle.cayley.proofs.Flipping.Neighbours.{level_pair, level_back, dot-sub}
-use Rattle.cayley.proofs.Order.Soon.{SoonAbove, soon_above_now, alive_soon, each_pair-map}
+use Rattle.cayley.proofs.OneCell.Neighbours.{level_pair, level_back, dot-sub}
+use Rattle.cayley.proofs.Life.Soon.{SoonAbove, soon_above_now, alive_soon}
 use Rattle.cayley.proofs.Flipping.PairOrder.{above_other}
 use Rattle.cayley.proofs.Flipping.Exchange.{Others, others_of, here_of, all_of, IsOrthogonal, Circuit, turn, cycle, negate, opposite, opposite-at, seen, orthogonal}
-use Rattle.cayley.proofs.Order.Mirror.{LateAbove, late_above_now, alive_lately}
+use Rattle.cayley.proofs.Life.Mirror.{LateAbove, late_above_now, alive_lately}
 use Rattle.int_vectors.specs.Vectors.{IsZero, IsPositive, dot}
-use Rattle.int_vectors.proofs.Entries.{zero_from}
+use Rattle.int_vectors.proofs.Entries.{zero_from, at-zero}
 use Rattle.cayley.specs.Times.{Time}
 use Rattle.cayley.specs.Problems.{Point, point_at, IsProblem}
 use Rattle.cayley.specs.Normals.{Normal, gap, IsNormal, NoneBelow}
 use Rattle.cayley.specs.Cells.{IsOf, IsIndependent, IsFurther}
 use Rattle.cayley.specs.Lives.{AliveJustAfter, AliveJustBefore}
-use Rattle.cayley.proofs.Flipping.Spots.{Spot, problem_of, with_pair}
-
-abbrev pub InRange : List Point → ℕ → ℕ → Type 0
-InRange s a b = (1 ≤ a) × (a < b) × (b ≤ length s)
+use Rattle.cayley.proofs.Flipping.OneSupport.{OneSupport, problem_of, with_pair}
+use Rattle.cayley.proofs.Lists.Pairs.{pairs_map}
+use Rattle.cayley.proofs.OneCell.CellRows.{InRange}
 
 abbrev pub IsLevel : Time → Normal → List Point → ℕ → ℕ → Type 0
 IsLevel t v s a b = IsZero (gap t v (point_at s a) (point_at s b))
@@ -31,7 +29,7 @@ IsLevel t v s a b = IsZero (gap t v (point_at s a) (point_at s b))
 abbrev pub FurtherAbove : Time → Normal → List Point → ℕ → ℕ → Type 0
 FurtherAbove t v s a b = (f : ℕ) → IsFurther s a b f → IsPositive (gap t v (point_at s a) (point_at s f))
 
-pub record Scene (o : Spot) (t : Time) (x y z : ℕ) : Type 0 where
+pub record Scene (o : OneSupport) (t : Time) (x y z : ℕ) : Type 0 where
   pub well : IsProblem (problem_of o)
   pub range : Others o InRange
   pub in_x : (1 ≤ x) × (x ≤ length o.s)
@@ -64,7 +62,7 @@ orthogonal_pair w s a b c e f =
     let i = dot-sub (point_at s c).coordinates (point_at s b).coordinates w in
     omega (arith, ints, e, f, g, h, i)
 
-unfoldable pub turn_scene : (o : Spot) (t : Time) (x y z : ℕ) → Scene o t x y z → Scene o t y x z
+unfoldable pub turn_scene : (o : OneSupport) (t : Time) (x y z : ℕ) → Scene o t x y z → Scene o t y x z
 unfolding turn
 turn_scene o t x y z c =
     let p = point_at o.s x in
@@ -91,7 +89,7 @@ turn_scene o t x y z c =
       falls = c.falls;
     }
 
-unfoldable pub cycle_scene : (o : Spot) (t : Time) (x y z : ℕ) → Scene o t x y z → Scene o t y z x
+unfoldable pub cycle_scene : (o : OneSupport) (t : Time) (x y z : ℕ) → Scene o t x y z → Scene o t y z x
 unfolding cycle
 cycle_scene o t x y z c =
     let p = point_at o.s x in
@@ -119,11 +117,11 @@ cycle_scene o t x y z c =
     }
 
 -- the point left out of the pair changes: z for y
-unfoldable pub other_scene : (o : Spot) (t : Time) (x y z : ℕ) → Scene o t x y z → Scene o t x z y
+unfoldable pub other_scene : (o : OneSupport) (t : Time) (x y z : ℕ) → Scene o t x y z → Scene o t x z y
 unfolding turn_scene cycle_scene
 other_scene o t x y z c = cycle_scene o t y x z (turn_scene o t x y z c)
 
-module _ (o : Spot) (t : Time) (x y z : ℕ) (c : Scene o t x y z) where
+module _ (o : OneSupport) (t : Time) (x y z : ℕ) (c : Scene o t x y z) where
   -- exchange at the scene
   pub independent_scene : c.circuit.lz ≢ pos 0 → IsIndependent (problem_of o) (with_pair o (x, y))
   independent_scene some w l e =
@@ -157,7 +155,7 @@ module _ (o : Spot) (t : Time) (x y z : ℕ) (c : Scene o t x y z) where
   pub none_below_scene : NoneBelow (problem_of o) (with_pair o (x, y)) t c.v
   none_below_scene =
       let Q : List Point → ℕ → ℕ → Type 0 = λ s a b. (f : ℕ) → IsFurther s a b f → IsPositive (gap t c.v (point_at s a) (point_at s f)) ⊎ IsZero (gap t c.v (point_at s a) (point_at s f)) in
-      all_of Q o (x, y) (each_pair-map o.sb o.cb (FurtherAbove t c.v) Q (λ s a b h f i. inl (h f i)) c.others_above.0, each_pair-map o.sa o.ca (FurtherAbove t c.v) Q (λ s a b h f i. inl (h f i)) c.others_above.1)
+      all_of Q o (x, y) (pairs_map o.sb o.cb (FurtherAbove t c.v) Q (λ s a b h f i. inl (h f i)) c.others_above.0, pairs_map o.sa o.ca (FurtherAbove t c.v) Q (λ s a b h f i. inl (h f i)) c.others_above.1)
       (λ f i. elim (ℕ_discrete f z) [
         | yes e ↦ inr (subst (λ j. IsZero (gap t c.v (point_at o.s x) (point_at o.s j))) (sym e) c.level_xz)
         | no n ↦ inl (c.above f (i.0, i.1) i.2 i.3 n)
@@ -195,7 +193,7 @@ module _ (o : Spot) (t : Time) (x y z : ℕ) (c : Scene o t x y z) where
         let Q : List Point → ℕ → ℕ → Type 0 = λ s a b. (f : ℕ) → IsFurther s a b f → SoonAbove p cell t (point_at s a) (point_at s f) in
         let now = λ (s : List Point) (a b : ℕ) (h : FurtherAbove t c.v s a b) (f : ℕ) (i : IsFurther s a b f). soon_above_now p cell t (point_at s a) (point_at s f) c.well (of_scene l) ind_after c.v normal_scene (h f i) in
         alive_soon p cell t c.well (of_scene l) ind_after (all_of Q o (x, y)
-        (each_pair-map o.sb o.cb (FurtherAbove t c.v) Q now c.others_above.0, each_pair-map o.sa o.ca (FurtherAbove t c.v) Q now c.others_above.1)
+        (pairs_map o.sb o.cb (FurtherAbove t c.v) Q now c.others_above.0, pairs_map o.sa o.ca (FurtherAbove t c.v) Q now c.others_above.1)
         (λ f i. elim (ℕ_discrete f z) [
           | yes e ↦ subst (λ j. SoonAbove p cell t (point_at o.s x) (point_at o.s j)) (sym e) left_after
           | no n ↦ soon_above_now p cell t (point_at o.s x) (point_at o.s f) c.well (of_scene l) ind_after c.v normal_scene (c.above f (i.0, i.1) i.2 i.3 n)
@@ -220,7 +218,7 @@ module _ (o : Spot) (t : Time) (x y z : ℕ) (c : Scene o t x y z) where
         let Q : List Point → ℕ → ℕ → Type 0 = λ s a b. (f : ℕ) → IsFurther s a b f → LateAbove p cell t (point_at s a) (point_at s f) in
         let now = λ (s : List Point) (a b : ℕ) (h : FurtherAbove t c.v s a b) (f : ℕ) (i : IsFurther s a b f). late_above_now p cell t (point_at s a) (point_at s f) c.well (of_scene l) ind_before c.v normal_scene (h f i) in
         alive_lately p cell t c.well (of_scene l) ind_before (all_of Q o (x, y)
-        (each_pair-map o.sb o.cb (FurtherAbove t c.v) Q now c.others_above.0, each_pair-map o.sa o.ca (FurtherAbove t c.v) Q now c.others_above.1)
+        (pairs_map o.sb o.cb (FurtherAbove t c.v) Q now c.others_above.0, pairs_map o.sa o.ca (FurtherAbove t c.v) Q now c.others_above.1)
         (λ f i. elim (ℕ_discrete f z) [
           | yes e ↦ subst (λ j. LateAbove p cell t (point_at o.s x) (point_at o.s j)) (sym e) left_before
           | no n ↦ late_above_now p cell t (point_at o.s x) (point_at o.s f) c.well (of_scene l) ind_before c.v normal_scene (c.above f (i.0, i.1) i.2 i.3 n)

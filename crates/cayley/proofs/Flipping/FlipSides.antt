@@ -3,7 +3,6 @@ use Rattle.std.proofs.Common.{◌≡◌, ◌≢◌, ℕ, [], ◌∷◌, ◌++◌
 use Rattle.std.proofs.lemmas.Int.{ints}
 use Rattle.std.proofs.Math.IntN.{ℤ, pos, ◌*ℤ◌, neg_ℤ}
 use Rattle.wide_int.proofs.Order.{sign_cases}
-use Rattle.cayley.proofs.Algebra.RowNormals.{at-zero}
 use Rattle.cayley.proofs.Order.Lexicographic.{positive-same, not_both, minus_one}
 use Rattle.cayley.proofs.Order.Proportion.{in_proportion, zero_in_proportion}
 use Rattle.cayley.proofs.Order.Lines.{Line, line_at, Before, rises, level, middle}
@@ -12,7 +11,7 @@ use Rattle.cayley.proofs.Order.Times.{turned, turned_both}
 use Rattle.cayley.proofs.Order.Lined.{turned_line, turn-at}
 use Rattle.cayley.proofs.Flipping.FlipScenes.{FurtherAbove, Scene, turn_scene, cycle_scene, other_scene, independent_scene, of_scene, normal_scene, none_below_scene, line_zero_scene, after_scene, before_scene}
 use Rattle.int_vectors.specs.Vectors.{IsZero, IsPositive, at}
-use Rattle.int_vectors.proofs.Entries.{at-scale, zero_from, not_zero}
+use Rattle.int_vectors.proofs.Entries.{at-scale, zero_from, not_zero, at-zero}
 use Rattle.cayley.specs.Times.{Time}
 use Rattle.cayley.specs.Cells.{Cell, IsOf, IsIndependent, IsFurther}
 use Rattle.cayley.specs.Problems.{point_at}
@@ -21,7 +20,7 @@ use Rattle.cayley.specs.Mixed.{IsAlive}
 use Rattle.cayley.specs.Lives.{AliveJustAfter, AliveJustBefore, BeginsAt}
 use Rattle.cayley.specs.Parents.{Precedes, ShareOne, DifferInOne}
 use Rattle.cayley.specs.Flips.{rising}
-use Rattle.cayley.proofs.Flipping.Spots.{Spot, problem_of, with_pair}
+use Rattle.cayley.proofs.Flipping.OneSupport.{OneSupport, problem_of, with_pair}
 
 -- a line and its opposite aren't both positive
 pub not_opposite : (l : Line) (t : Time) → IsPositive (line_at l t) → ¬ (IsPositive (line_at (opposite l) t))
@@ -39,7 +38,7 @@ falls_before l t u f z b =
 pub falls_after : (l : Line) (t u : Time) → l.slope <ℤ pos 0 → IsZero (line_at l t) → Before t u → IsPositive (line_at (opposite l) u)
 falls_after l t u f z b = rises (opposite l) t u (omega (arith, ints)) b (inr (zero_from _ (λ e. let a = at-zero (line_at l t) e z in opposite-at l t e ∙ omega (arith, ints, a))))
 
-module _ (o : Spot) (x y z : ℕ) (k : Circuit o x y z) (further : IsFurther o.s x y z) (u : Time) (h : IsAlive (problem_of o) (with_pair o (x, y)) u) where
+module _ (o : OneSupport) (x y z : ℕ) (k : Circuit o x y z) (further : IsFurther o.s x y z) (u : Time) (h : IsAlive (problem_of o) (with_pair o (x, y)) u) where
   gap_alive : IsPositive (gap u h.2.0 (point_at o.s x) (point_at o.s z))
   gap_alive = here_of (FurtherAbove u h.2.0) o (x, y) h.2.2 z further
 
@@ -66,7 +65,7 @@ module _ (o : Spot) (x y z : ℕ) (k : Circuit o x y z) (further : IsFurther o.s
       not_zero (gap u h.2.0 (point_at o.s x) (point_at o.s z)) gap_alive (zero_in_proportion (line_at k.line u) _ h.2.0.over k.lz some (seen o x y z k u h.2.0 h.2.1) q)
 
 -- alive just before, and the point left out is level: its line falls
-pub falls_where_before : (o : Spot) (t : Time) (x y z : ℕ) (k : Circuit o x y z) → IsFurther o.s x y z → IsZero (line_at k.line t) → AliveJustBefore (problem_of o) (with_pair o (x, y)) t → pos 0 <ℤ k.lz → k.line.slope <ℤ pos 0
+pub falls_where_before : (o : OneSupport) (t : Time) (x y z : ℕ) (k : Circuit o x y z) → IsFurther o.s x y z → IsZero (line_at k.line t) → AliveJustBefore (problem_of o) (with_pair o (x, y)) t → pos 0 <ℤ k.lz → k.line.slope <ℤ pos 0
 falls_where_before o t x y z k f q h p =
     let m = middle h.0 t h.1 in
     let a = line_alive o x y z k f m.m (h.2 m.m m.after m.before) p in
@@ -75,7 +74,7 @@ falls_where_before o t x y z k f q h p =
     (λ r. absurd (not_zero (line_at k.line t) (rises k.line m.m t r m.before (inl a)) q))
 
 -- alive just after: its line rises
-pub rises_where_after : (o : Spot) (t : Time) (x y z : ℕ) (k : Circuit o x y z) → IsFurther o.s x y z → IsZero (line_at k.line t) → AliveJustAfter (problem_of o) (with_pair o (x, y)) t → pos 0 <ℤ k.lz → pos 0 <ℤ k.line.slope
+pub rises_where_after : (o : OneSupport) (t : Time) (x y z : ℕ) (k : Circuit o x y z) → IsFurther o.s x y z → IsZero (line_at k.line t) → AliveJustAfter (problem_of o) (with_pair o (x, y)) t → pos 0 <ℤ k.lz → pos 0 <ℤ k.line.slope
 rises_where_after o t x y z k f q h p =
     let m = middle t h.0 h.1 in
     let a = line_alive o x y z k f m.m (h.2 m.m m.after m.before) p in
@@ -84,7 +83,7 @@ rises_where_after o t x y z k f q h p =
     (λ e. absurd (not_zero (line_at k.line t) (level k.line m.m t e a) q))
     (λ r. r)
 
-module _ (o : Spot) (t : Time) (x y z : ℕ) (c : Scene o t x y z) where
+module _ (o : OneSupport) (t : Time) (x y z : ℕ) (c : Scene o t x y z) where
   further_scene : IsFurther o.s x y z
   further_scene = (c.in_z.0, c.in_z.1, λ e. c.xz (sym e), λ e. c.yz (sym e))
 
@@ -112,7 +111,7 @@ module _ (o : Spot) (t : Time) (x y z : ℕ) (c : Scene o t x y z) where
   scene_dead some h = some_alive o x y z c.circuit further_scene t h some (line_zero_scene o t x y z c)
 
 -- the same for the pair in rising order
-module _ (o : Spot) (t : Time) (x y z : ℕ) (c : Scene o t x y z) where
+module _ (o : OneSupport) (t : Time) (x y z : ℕ) (c : Scene o t x y z) where
   pub after_rising : c.circuit.lz <ℤ pos 0 → AliveJustAfter (problem_of o) (with_pair o (rising x y)) t
   unfolding turn_scene turn
   after_rising n = by_rising (λ q. AliveJustAfter (problem_of o) (with_pair o q) t) x y c.xy (λ l. after_scene o t x y z c l n) (λ l. after_scene o t y x z (turn_scene o t x y z c) l n)
@@ -164,12 +163,12 @@ share_rising x y z xy xz yz =
     (λ l. by_rising (λ q. ShareOne (y, x) q) x z xz (λ m. inr (inr (inr refl))) (λ m. inr (inl (refl, yz))))
 
 -- the pair without a point of sign plus precedes the pair without a point of sign minus
-pub precedes_scene : (o : Spot) (t : Time) (x y z : ℕ) (c : Scene o t x y z) → pos 0 <ℤ c.circuit.lz → c.circuit.ly <ℤ pos 0 → Precedes (problem_of o) (with_pair o (rising x y)) (with_pair o (rising x z)) t
+pub precedes_scene : (o : OneSupport) (t : Time) (x y z : ℕ) (c : Scene o t x y z) → pos 0 <ℤ c.circuit.lz → c.circuit.ly <ℤ pos 0 → Precedes (problem_of o) (with_pair o (rising x y)) (with_pair o (rising x z)) t
 unfolding other_scene turn_scene cycle_scene turn cycle
-precedes_scene o t x y z c plus minus_one =
+precedes_scene o t x y z c plus minus =
     let d = other_scene o t x y z c in (
       differ_at o.cb o.ca (rising x y) (rising x z) (share_rising x y z c.xy c.xz c.yz),
       before_rising o t x y z c plus,
-      after_rising o t x z y d minus_one,
+      after_rising o t x z y d minus,
       (c.v, normal_rising o t x y z c, normal_rising o t x z y d, none_below_rising o t x y z c, none_below_rising o t x z y d),
     )

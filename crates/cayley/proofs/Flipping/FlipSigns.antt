@@ -14,7 +14,8 @@ use Rattle.cayley.specs.declared.found.Sign.TheVariants.{Minus, Zero, Plus}
 use Rattle.cayley.specs.Signs.{HasSign}
 use Rattle.cayley.specs.FlipRules.{taken, PastWhere, in_order, predecessors_by}
 use Rattle.cayley.specs.FlipLaws.{FlipRule, PredecessorRule}
-use Rattle.cayley.proofs.Flipping.Places.{pairs_long, further_bound}
+use Rattle.cayley.proofs.Flipping.Places.{further_bound}
+use Rattle.cayley.proofs.Lists.Pairs.{pairs_long}
 
 contains_none : {A : Type 0} (x : A) → ¬ (Contains [] x)
 contains_none x h = let l = h.1 in omega (arith, l)

@@ -7,10 +7,9 @@ use Rattle.cayley.proofs.Order.Proportion.{zero_in_proportion}
 use Rattle.cayley.proofs.Order.Lines.{line_at}
 use Rattle.cayley.proofs.Searching.Parents.{precedes_same}
 use Rattle.cayley.proofs.Flipping.Exchange.{others_of, here_of, all_of, IsOrthogonal, Circuit, turn, cycle, seen, rising_is, rising_turn}
-use Rattle.cayley.proofs.Order.Soon.{each_pair-map}
-use Rattle.cayley.proofs.Flipping.FlipScenes.{InRange, IsLevel, FurtherAbove, Scene, turn_scene, cycle_scene, other_scene}
+use Rattle.cayley.proofs.Flipping.FlipScenes.{IsLevel, FurtherAbove, Scene, turn_scene, cycle_scene, other_scene}
 use Rattle.cayley.proofs.Flipping.FlipSides.{falls_where_before, precedes_scene, begins_rising}
-use Rattle.cayley.proofs.Flipping.FlipNeighbours.{both_pairs, successors_of, predecessors_of}
+use Rattle.cayley.proofs.Flipping.FlipNeighbours.{successors_of, predecessors_of}
 use Rattle.cayley.proofs.Life.Decisions.{begins_at_once, alive_before}
 use Rattle.int_vectors.specs.Vectors.{IsZero, IsPositive}
 use Rattle.cayley.specs.Times.{Time}
@@ -20,18 +19,20 @@ use Rattle.cayley.specs.Cells.{Cell, EachPair, IsOf, IsIndependent, IsFurther, I
 use Rattle.cayley.specs.Lives.{AliveJustBefore, BeginsAt}
 use Rattle.cayley.specs.Parents.{Precedes, IsParent}
 use Rattle.cayley.specs.Flips.{rising}
-use Rattle.cayley.proofs.Flipping.Spots.{Spot, problem_of, with_pair, LevelPoint, IsSuccessor, IsPredecessor}
+use Rattle.cayley.proofs.Flipping.OneSupport.{OneSupport, problem_of, with_pair, LevelPoint, IsSuccessor, IsPredecessor}
+use Rattle.cayley.proofs.Lists.Pairs.{pairs_map, pairs_together}
+use Rattle.cayley.proofs.OneCell.CellRows.{InRange}
 
 pub above_where : (t : Time) (v : Normal) (supports : List (List Point)) (cell : Cell)
     → EachPair supports cell (λ s a b. (c : ℕ) → IsFurther s a b c → IsPositive (gap t v (point_at s a) (point_at s c)) ⊎ IsZero (gap t v (point_at s a) (point_at s c)))
     → EachPair supports cell (λ s a b. (c : ℕ) → IsFurther s a b c → ¬ (IsZero (gap t v (point_at s a) (point_at s c))))
     → EachPair supports cell (FurtherAbove t v)
 above_where t v supports cell e f =
-    each_pair-map supports cell _ (FurtherAbove t v) (λ s a b h c i. elim (h.0 c i) [ inl p ↦ p | inr z ↦ absurd (h.1 c i z) ])
-    (both_pairs _ _ supports cell e f)
+    pairs_map supports cell _ (FurtherAbove t v) (λ s a b h c i. elim (h.0 c i) [ inl p ↦ p | inr z ↦ absurd (h.1 c i z) ])
+    (pairs_together supports cell _ _ e f)
 
 -- a scene from one of its cells, where the line falls
-unfoldable pub scene_of : (o : Spot) (t : Time) (a b c : ℕ) → IsProblem (problem_of o) → IsOf (problem_of o) (with_pair o (a, b)) → IsIndependent (problem_of o) (with_pair o (a, b))
+unfoldable pub scene_of : (o : OneSupport) (t : Time) (a b c : ℕ) → IsProblem (problem_of o) → IsOf (problem_of o) (with_pair o (a, b)) → IsIndependent (problem_of o) (with_pair o (a, b))
     → LevelPoint o a b c t → (k : Circuit o a b c) → k.line.slope <ℤ pos 0 → Scene o t a b c
 scene_of o t a b c well of ind l k falls =
     let r = here_of InRange o (a, b) of in
@@ -58,17 +59,17 @@ scene_of o t a b c well of ind l k falls =
       falls = falls;
     }
 
-pub line_level : (o : Spot) (t : Time) (a b c : ℕ) (l : LevelPoint o a b c t) (k : Circuit o a b c) → IsZero (line_at k.line t)
+pub line_level : (o : OneSupport) (t : Time) (a b c : ℕ) (l : LevelPoint o a b c t) (k : Circuit o a b c) → IsZero (line_at k.line t)
 line_level o t a b c l k =
     let h = l.v.positive in
     zero_in_proportion (gap t l.v (point_at o.s a) (point_at o.s c)) (line_at k.line t) k.lz l.v.over (λ e. omega (arith, ints)) (λ e. sym (seen o a b c k t l.v l.normal e)) l.level
 
-pub scene_before_time : (o : Spot) (t : Time) (a b c : ℕ) → IsProblem (problem_of o) → AliveJustBefore (problem_of o) (with_pair o (a, b)) t → LevelPoint o a b c t → (k : Circuit o a b c) → pos 0 <ℤ k.lz → Scene o t a b c
+pub scene_before_time : (o : OneSupport) (t : Time) (a b c : ℕ) → IsProblem (problem_of o) → AliveJustBefore (problem_of o) (with_pair o (a, b)) t → LevelPoint o a b c t → (k : Circuit o a b c) → pos 0 <ℤ k.lz → Scene o t a b c
 scene_before_time o t a b c well before l k plus =
     let h = (alive_before (problem_of o) (with_pair o (a, b)) t before).1 in
     scene_of o t a b c well h.0 h.1 l k (falls_where_before o t a b c k l.further (line_level o t a b c l k) before plus)
 
-module _ (o : Spot) (t : Time) (a b c : ℕ) (well : IsProblem (problem_of o)) (before : AliveJustBefore (problem_of o) (with_pair o (a, b)) t)
+module _ (o : OneSupport) (t : Time) (a b c : ℕ) (well : IsProblem (problem_of o)) (before : AliveJustBefore (problem_of o) (with_pair o (a, b)) t)
     (l : LevelPoint o a b c t) (k : Circuit o a b c) (plus : pos 0 <ℤ k.lz) where
   scene : Scene o t a b c
   scene = scene_before_time o t a b c well before l k plus

@@ -4,9 +4,9 @@ use Rattle.std.proofs.lemmas.Int.{ints}
 use Rattle.std.proofs.Common.{arith}
 use Rattle.std.proofs.Math.IntN.{pos}
 use Rattle.cayley.proofs.Order.Lexicographic.{positive-same}
-use Rattle.cayley.proofs.Algebra.RowNormals.{at-zero}
-use Rattle.cayley.proofs.Flipping.Neighbours.{gap-potential, dot-sub}
+use Rattle.cayley.proofs.OneCell.Neighbours.{gap-potential, dot-sub}
 use Rattle.int_vectors.specs.Vectors.{IsZero, IsPositive, dot, sub}
+use Rattle.int_vectors.proofs.Entries.{at-zero}
 use Rattle.cayley.specs.Times.{Time}
 use Rattle.cayley.specs.Problems.{Point, Problem, point_at}
 use Rattle.cayley.specs.Normals.{Normal, gap}

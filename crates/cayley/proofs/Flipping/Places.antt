@@ -7,10 +7,11 @@ use Rattle.cayley.specs.Cells.{Cell, EachPair, IsFurther}
 use Rattle.cayley.specs.Normals.{Normal, gap, IsNormal, NoneBelow}
 use Rattle.cayley.specs.Dependencies.{pair_at, nth_support}
 use Rattle.cayley.specs.Flips.{put_pair, IsOnlyLevel}
-use Rattle.cayley.proofs.Flipping.Spots.{Spot, problem_of, with_pair, LevelPoint, NoneLevel, OnlyLevel}
+use Rattle.cayley.proofs.Flipping.OneSupport.{OneSupport, problem_of, with_pair, LevelPoint, NoneLevel, OnlyLevel}
+use Rattle.cayley.proofs.Lists.Pairs.{pairs_long}
 
 pub record AtPlace (p : Problem) (cell : Cell) (j : ℕ) : Type 0 where
-  pub o : Spot
+  pub o : OneSupport
   pub x : ℕ × ℕ
   pub p_is : problem_of o ≡ p
   pub cell_is : with_pair o x ≡ cell
@@ -35,12 +36,6 @@ at_place_of version n files (s ∷ supports) (x ∷ cell) (suc j) l b =
   where
     more : List Point → Problem → Problem
     more s r = record { version = version; dimension = n; files = files; supports = s ∷ r.supports }
-
-pub pairs_long : (supports : List (List Point)) (cell : Cell) (P : List Point → ℕ → ℕ → Type 0) → EachPair supports cell P → length supports ≡ length cell
-pairs_long [] [] P e = refl
-pairs_long [] (x ∷ cell) P e = absurd e
-pairs_long (s ∷ supports) [] P e = absurd e
-pairs_long (s ∷ supports) (x ∷ cell) P e = ap suc (pairs_long supports cell P e.1)
 
 pub only_level_place : (supports : List (List Point)) (cell : Cell) (j c : ℕ) (t : Time) (v : Normal) → OnlyLevel supports cell j c t v → suc j ≤ length cell
 only_level_place [] cell j c t v e = absurd e
@@ -124,7 +119,7 @@ parts (r ∷ sb) s sa (y ∷ cb) x ca c t v l e =
     record { further = q.further; level = q.level; only = q.only; left = (e.0, q.left); right = q.right }
 
 -- the premises by place give those by spot
-pub level_point_of : (o : Spot) (x : ℕ × ℕ) (c : ℕ) (t : Time) (v : Normal) → IsNormal (problem_of o) (with_pair o x) t v → OnlyLevel (problem_of o).supports (with_pair o x) (length o.cb) c t v → NoneBelow (problem_of o) (with_pair o x) t v → LevelPoint o x.0 x.1 c t
+pub level_point_of : (o : OneSupport) (x : ℕ × ℕ) (c : ℕ) (t : Time) (v : Normal) → IsNormal (problem_of o) (with_pair o x) t v → OnlyLevel (problem_of o).supports (with_pair o x) (length o.cb) c t v → NoneBelow (problem_of o) (with_pair o x) t v → LevelPoint o x.0 x.1 c t
 level_point_of o x c t v is only none =
     let e = parts o.sb o.s o.sa o.cb x o.ca c t v o.long only in
     record { further = e.further; v = v; normal = is; none_below = none; level = e.level; only = e.only; left = e.left; right = e.right }

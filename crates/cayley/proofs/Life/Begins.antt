@@ -1,23 +1,22 @@
 -- what holds at some time holds at all early times, or begins before at the greatest zero of its rising lines
-use Rattle.std.proofs.Common.{◌≡◌, ◌⊎◌, ℕ, List, [], ◌∷◌, arith, refl, sym, ap, ◌∙◌, inl, inr, ◌<ℤ◌}
+use Rattle.std.proofs.Common.{◌⊎◌, List, [], ◌∷◌, arith, refl, sym, inl, inr, ◌<ℤ◌}
 use Rattle.std.proofs.lemmas.Int.{ints}
-use Rattle.std.proofs.Math.IntN.{ℤ, pos, ◌+ℤ◌, ◌*ℤ◌, neg_ℤ, *ℤ-zero}
-use Rattle.wide_int.proofs.Ring.{as_D, Ds, same_D}
-use Rattle.cayley.proofs.Algebra.RowNormals.{at-zero}
+use Rattle.std.proofs.Math.IntN.{ℤ, pos, *ℤ-zero}
 use Rattle.wide_int.proofs.Order.{sign_cases}
-use Rattle.cayley.proofs.Order.Lexicographic.{positive-same, positive-unscale, not_both, three, minus_one}
+use Rattle.cayley.proofs.Order.Lexicographic.{positive-same, positive-unscale}
 use Rattle.cayley.proofs.Order.Lines.{Line, line_at, later, Before, NotNegative, AllPositive, SignAfter, before_trans, zero_of, before_zero, rises, level}
 use Rattle.cayley.proofs.Searching.Listing.{Has}
-use Rattle.cayley.proofs.Order.Times.{Same, same_sym, same_trans, time_cases, same_before}
-use Rattle.cayley.proofs.Order.Lined.{Lined, Early, Begins, SignEarly, after_from, rise_of, before_rise, at_rise, own_zero, each_has, early_from, line_same, flat-at}
+use Rattle.cayley.proofs.Order.Times.{same_sym, same_trans, time_cases, same_before}
+use Rattle.cayley.proofs.Order.Lined.{Lined, Early, Begins, SignEarly, after_from, rise_of, at_rise, own_zero, each_has, early_from, flat-at}
 use Rattle.cayley.proofs.Life.Decisions.{lined_cell}
-use Rattle.int_vectors.specs.Vectors.{Each, IsZero, IsPositive, scale, at}
-use Rattle.int_vectors.proofs.Entries.{at-scale, at-add, zero_from, not_zero}
+use Rattle.int_vectors.specs.Vectors.{Each, IsPositive}
+use Rattle.int_vectors.proofs.Entries.{not_zero}
 use Rattle.cayley.specs.Times.{Time, IsBefore}
 use Rattle.cayley.specs.Problems.{Problem, IsProblem}
 use Rattle.cayley.specs.Cells.{Cell}
 use Rattle.cayley.specs.Mixed.{IsAlive}
 use Rattle.cayley.specs.Lives.{AliveEarly, BeginsAt}
+use Rattle.cayley.proofs.Order.Zeros.{zero_before, zero_there}
 
 -- ---- the greatest zero of the rising lines
 -- every rising line has its zero at t or before
@@ -69,42 +68,7 @@ last_rise (l ∷ ls) =
     (λ n. add_flat l ls (λ r. omega (arith, ints)) (last_rise ls))
     (λ r. inl (add_rising l ls r (last_rise ls)))
 
--- ---- the line times -1
-minus_line : Line → Line
-minus_line l = record { start = scale (neg_ℤ (pos 1)) l.start; slope = neg_ℤ l.slope }
-
-minus-at : (l : Line) (t : Time) (e : ℕ) → at (line_at (minus_line l) t) e ≡ at (scale (neg_ℤ (pos 1)) (line_at l t)) e
-unfolding minus_line
-minus-at l t e = simp (at-add, at-scale) (ring t.over (at l.start e) l.slope (at t.entries e) _ _ (minus_one (at l.start e)) (minus_one _))
-  where
-    ring1 : (q a b x : ℤ) → q *ℤ neg_ℤ a +ℤ neg_ℤ b *ℤ x ≡ neg_ℤ (q *ℤ a +ℤ b *ℤ x)
-    ring1 q a b x = rw (as_D q, as_D a, as_D b, as_D x) (simp Ds (same_D _ _ _ _ (omega arith)))
-
-    ring : (q a b x z w : ℤ) → z ≡ neg_ℤ a → w ≡ neg_ℤ (q *ℤ a +ℤ b *ℤ x) → q *ℤ z +ℤ neg_ℤ b *ℤ x ≡ w
-    ring q a b x z w e f = rw (e, f) (ring1 q a b x)
-
-zero_minus : (l : Line) (t : Time) → IsZero (line_at l t) → IsZero (line_at (minus_line l) t)
-zero_minus l t z = zero_from _ (λ e. minus-at l t e ∙ at-scale (neg_ℤ (pos 1)) (line_at l t) e ∙ ap (λ x. neg_ℤ (pos 1) *ℤ x) (at-zero (line_at l t) e z) ∙ *ℤ-zero (neg_ℤ (pos 1)))
-
 -- ---- from a time at which all are positive
--- a rising line that is positive at x has its zero before x
-pub zero_before : (l : Line) (r : pos 0 <ℤ l.slope) (x : Time) → IsPositive (line_at l x) → Before (rise_of l r) x
-zero_before l r x p =
-    time_cases (rise_of l r) x
-    (λ b. b)
-    (λ s. absurd (not_zero (line_at l (rise_of l r)) (line_same l x (rise_of l r) (same_sym (rise_of l r) x s) p) (own_zero l r)))
-    (λ b. absurd (not_both (line_at l x) p (before_rise l r x b)))
-
-pub zero_there : (l : Line) (t u : Time) → Same t u → IsZero (line_at l t) → IsZero (line_at l u)
-zero_there l t u s z =
-    three (line_at l u)
-    (λ n. absurd (elsewhere n))
-    (λ q. q)
-    (λ q. absurd (not_zero (line_at l t) (line_same l u t (same_sym t u s) q) z))
-  where
-    elsewhere : IsPositive (scale (neg_ℤ (pos 1)) (line_at l u)) → ⊥
-    elsewhere n = not_zero (line_at (minus_line l) t) (line_same (minus_line l) u t (same_sym t u s) (positive-same _ _ (λ e. sym (minus-at l u e)) n)) (zero_minus l t z)
-
 -- positive at x and no zero after t, which is before x: the sign just after t
 sign_after : (l : Line) (t x : Time) → Before t x → IsPositive (line_at l x) → RisenBy t l → SignAfter t l
 sign_after l t x b p h =

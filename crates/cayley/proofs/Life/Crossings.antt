@@ -1,18 +1,14 @@
 -- the rules on lines that give where a cell begins and ends
-use Rattle.std.proofs.Common.{List, [], ◌∷◌, arith, sym, ◌∙◌, inl, inr, ◌<ℤ◌}
-use Rattle.std.proofs.lemmas.Int.{ints}
+use Rattle.std.proofs.Common.{List, [], ◌∷◌, inl, ◌<ℤ◌}
 use Rattle.std.proofs.Math.IntN.{pos}
 use Rattle.wide_int.proofs.Order.{sign_cases}
-use Rattle.cayley.proofs.Order.Lexicographic.{positive-same}
-use Rattle.cayley.proofs.Order.Lines.{Line, line_at, later, Before, NotNegative, AllPositive, before_trans, zero_of, before_zero, rises, level, middle}
+use Rattle.cayley.proofs.Order.Lines.{Line, line_at, later, Before, NotNegative, AllPositive, before_trans, zero_of, before_zero, rises, level}
 use Rattle.cayley.proofs.Searching.Listing.{Has}
-use Rattle.cayley.proofs.Order.Times.{Same, same_sym, time_cases, never_before, turned, turned_both}
-use Rattle.cayley.proofs.Algebra.RowNormals.{at-zero}
-use Rattle.cayley.proofs.Order.Lined.{Lined, Early, Begins, early_from, rise_of, each_has, begins_same, turned_line, turn-at}
+use Rattle.cayley.proofs.Order.Times.{Same, same_sym, never_before}
+use Rattle.cayley.proofs.Order.Lined.{Lined, Early, Begins, early_from, rise_of, each_has, begins_same}
 use Rattle.cayley.proofs.Life.Begins.{LastRise, begins_last, signs_early_at}
 use Rattle.cayley.proofs.Life.Ends.{Late, Ends}
-use Rattle.int_vectors.specs.Vectors.{Each, IsZero, IsPositive}
-use Rattle.int_vectors.proofs.Entries.{zero_from, not_zero}
+use Rattle.int_vectors.specs.Vectors.{Each, IsPositive}
 use Rattle.cayley.specs.Times.{Time}
 
 -- ---- the entry
@@ -66,22 +62,3 @@ lines_on (l ∷ ls) x y p f a = (line_on l x y p.0 f.0 a, lines_on ls x y p.1 f.
 -- no line falls: at all late times
 pub late_rule : (P : Time → Type 0) (p : Lined P) → Each p.list (λ l. ¬ (l.slope <ℤ pos 0)) → (x : Time) → P x → Late P
 late_rule P p none x h = (x, λ y a. p.from y (lines_on p.list x y (p.to x h) none a))
-
--- ---- the other lines at the exit
--- a falling line, before a time at which it isn't negative
-pub falls_back : (l : Line) (m t : Time) → l.slope <ℤ pos 0 → Before m t → NotNegative (line_at l t) → IsPositive (line_at l m)
-unfolding turned_line
-falls_back l m t n b h =
-    positive-same _ _ (turn-at l m)
-    (rises (turned_line l) (turned t) (turned m) (omega (arith, ints)) (turned_both m t b)
-    (elim h [ inl p ↦ inl (positive-same _ _ (λ e. sym (turn-at l t e)) p) | inr z ↦ inr (zero_from _ (λ e. turn-at l t e ∙ at-zero (line_at l t) e z)) ]))
-
--- a falling line is zero at one time only
-pub only_zero : (l : Line) (n : l.slope <ℤ pos 0) (t : Time) → IsZero (line_at l t) → Same t (zero_of l n)
-only_zero l n t z =
-    time_cases t (zero_of l n)
-    (λ b. absurd (not_zero (line_at l t) ((before_zero l n t).0 b) z))
-    (λ s. s)
-    (λ b.
-    let m = middle (zero_of l n) t b in
-    absurd (never_before m.m (before_trans m.m (zero_of l n) m.m ((before_zero l n m.m).1 (falls_back l m.m t n m.before (inr z))) (inl m.after))))

@@ -7,7 +7,6 @@ use Rattle.cayley.proofs.Algebra.Kernel.{Kills}
 use Rattle.cayley.proofs.OneCell.CellNormals.{kills_to, a_normal, length-edges}
 use Rattle.cayley.proofs.Algebra.Deciding.{decide_independent}
 use Rattle.cayley.proofs.OneCell.CellLines.{point_line}
-use Rattle.cayley.proofs.Order.Soon.{each_pair-map}
 use Rattle.cayley.proofs.Order.Times.{Same, sooner}
 use Rattle.cayley.proofs.Order.Lined.{Lined, lined_map, lined_further, lined_pairs, dec_now, dec_after, dec_ahead, dec_early, dec_begins, find_begin, begins_once}
 use Rattle.int_vectors.specs.Vectors.{IsZero, IsPositive, scale, sub, dot}
@@ -20,6 +19,7 @@ use Rattle.cayley.specs.Mixed.{IsAlive}
 use Rattle.cayley.specs.Lives.{AliveJustAfter, AliveJustBefore, AliveEarly, BeginsAt}
 use Rattle.cayley.specs.Rows.{edges}
 use Rattle.cayley.proofs.Order.Lines.{middle}
+use Rattle.cayley.proofs.Lists.Pairs.{pairs_map}
 
 -- ---- of the problem
 pub dec_pairs : (supports : List (List Point)) (cell : Cell) (P : List Point → ℕ → ℕ → Type 0) → ((s : List Point) (a b : ℕ) → Dec (P s a b)) → Dec (EachPair supports cell P)
@@ -59,7 +59,7 @@ AboveAt p cell t a c = (v : Normal) → IsNormal p cell t v → IsPositive (gap 
 
 -- a fact for each pair, whatever it is
 pub each_pair : (supports : List (List Point)) (cell : Cell) (Q P : List Point → ℕ → ℕ → Type 0) → EachPair supports cell Q → ((s : List Point) (a b : ℕ) → P s a b) → EachPair supports cell P
-each_pair supports cell Q P e f = each_pair-map supports cell Q P (λ s a b q. f s a b) e
+each_pair supports cell Q P e f = pairs_map supports cell Q P (λ s a b q. f s a b) e
 
 module _ (p : Problem) (cell : Cell) (well : IsProblem p) (of : IsOf p cell) (ind : IsIndependent p cell) where
   one_point : (a c : Point) → Lined (λ t. AboveAt p cell t a c)
@@ -74,8 +74,8 @@ module _ (p : Problem) (cell : Cell) (well : IsProblem p) (of : IsOf p cell) (in
   pub lined_alive : Lined (IsAlive p cell)
   lined_alive =
       lined_map (λ t. EachPair p.supports cell (λ s a b. (c : ℕ) → IsFurther s a b c → AboveAt p cell t (point_at s a) (point_at s c))) (IsAlive p cell)
-      (λ t h. let v = a_normal p cell well of ind t in (of, ind, (v.0, v.1, each_pair-map p.supports cell _ _ (λ s a b k c f. k c f v.0 v.1) h)))
-      (λ t h. each_pair-map p.supports cell _ _ (λ s a b k c f v is.
+      (λ t h. let v = a_normal p cell well of ind t in (of, ind, (v.0, v.1, pairs_map p.supports cell _ _ (λ s a b k c f. k c f v.0 v.1) h)))
+      (λ t h. pairs_map p.supports cell _ _ (λ s a b k c f v is.
       let l = point_line p cell (point_at s a) (point_at s c) well of ind in
       (l.above t v is).0 ((l.above t h.2.0 h.2.1).1 (k c f))) h.2.2)
       (lined_pairs p.supports cell (λ t s a b. (c : ℕ) → IsFurther s a b c → AboveAt p cell t (point_at s a) (point_at s c))

@@ -2,8 +2,7 @@
 use Rattle.std.proofs.Common.{◌↔◌, ℕ, ◌<◌, ◌≤◌, List, [], ◌∷◌, length, arith, sym, subst, inl, inr}
 use Rattle.std.specs.Prelude.{Contains}
 use Rattle.cayley.proofs.Order.Proportion.{in_proportion}
-use Rattle.cayley.proofs.Order.Soon.{each_pair-map}
-use Rattle.cayley.proofs.Flipping.Neighbours.{level_pair, level_back}
+use Rattle.cayley.proofs.OneCell.Neighbours.{level_pair, level_back}
 use Rattle.cayley.proofs.OneCell.Gaps.{gap_two}
 use Rattle.cayley.proofs.Order.Lines.{next, before_next, before_trans, Before}
 use Rattle.cayley.proofs.Order.Times.{same_sym, same_before, time_cases}
@@ -20,6 +19,7 @@ use Rattle.cayley.specs.Mixed.{IsAlive}
 use Rattle.cayley.specs.Lives.{BeginsAt, AliveLate, EndsAt}
 use Rattle.cayley.specs.Parents.{ShareOne, DifferInOne, Precedes, IsParent}
 use Rattle.cayley.specs.Shares.{IsChildren}
+use Rattle.cayley.proofs.Lists.Pairs.{pairs_map}
 
 pub share_back : (x y : ℕ × ℕ) → ShareOne x y → ShareOne y x
 share_back x y (inl h) = inl (sym h.0, λ e. h.1 (sym e))
@@ -70,7 +70,7 @@ not_all_above (s ∷ supports) (x ∷ sigma) (y ∷ tau) t v os ot ns nt (inr d)
 meeting_dead : (p : Problem) (sigma tau : Cell) (t : Time) (v : Normal) → IsProblem p → IsOf p tau → DifferInOne sigma tau → IsNormal p sigma t v → IsNormal p tau t v → ¬ (IsAlive p sigma t)
 meeting_dead p sigma tau t v well ot d ns nt a =
     not_all_above p.supports sigma tau t v a.0 ot ns.1 nt.1 d
-    (each_pair-map p.supports sigma _ _ (λ s i j k c f. in_proportion _ (gap t v (point_at s i) (point_at s c)) v.over a.2.0.over v.positive a.2.0.positive (λ e. gap_two p sigma well a.0 a.1 t a.2.0 v a.2.1 ns (point_at s i) (point_at s c) e) (k c f)) a.2.2)
+    (pairs_map p.supports sigma _ _ (λ s i j k c f. in_proportion _ (gap t v (point_at s i) (point_at s c)) v.over a.2.0.over v.positive a.2.0.positive (λ e. gap_two p sigma well a.0 a.1 t a.2.0 v a.2.1 ns (point_at s i) (point_at s c) e) (k c f)) a.2.2)
 
 pub precedes_ends : (p : Problem) (sigma tau : Cell) (t : Time) → IsProblem p → Precedes p sigma tau t → EndsAt p sigma t
 precedes_ends p sigma tau t well h = (h.1, meeting_dead p sigma tau t h.3.0 well (alive_after p tau t h.2).1.0 h.0 h.3.1 h.3.2)

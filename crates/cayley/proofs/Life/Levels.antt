@@ -3,22 +3,21 @@ use Rattle.std.proofs.Common.{◌⊎◌, ℕ, zero, suc, ◌<◌, List, [], ◌�
 use native.Mathlib.Decide.{ℕ_discrete}
 use Rattle.cayley.proofs.Order.Lexicographic.{positive-same}
 use Rattle.cayley.proofs.Order.Proportion.{either_in_proportion, in_proportion}
-use Rattle.cayley.proofs.Algebra.RowNormals.{at-zero}
 use Rattle.cayley.proofs.Order.Lines.{Line, line_at, just_after_to, middle}
 use Rattle.cayley.proofs.OneCell.CellLines.{exact_line}
-use Rattle.cayley.proofs.Order.Soon.{each_pair-map}
 use Rattle.cayley.proofs.Order.Times.{turned}
 use Rattle.cayley.proofs.Order.Lined.{Lined, Ahead, mirrored, ahead_to, after_to, turned_line, turn-at, further_cases}
 use Rattle.cayley.proofs.Life.Walls.{SomeFurther}
 use Rattle.cayley.proofs.Life.Decisions.{alive_after, alive_before}
 use Rattle.int_vectors.specs.Vectors.{IsZero, IsPositive}
-use Rattle.int_vectors.proofs.Entries.{zero_from}
+use Rattle.int_vectors.proofs.Entries.{zero_from, at-zero}
 use Rattle.cayley.specs.Times.{Time, IsBefore}
 use Rattle.cayley.specs.Problems.{Point, Problem, point_at, IsProblem}
 use Rattle.cayley.specs.Normals.{Normal, gap, IsNormal, NoneBelow}
 use Rattle.cayley.specs.Cells.{Cell, EachPair, IsOf, IsIndependent, IsFurther}
 use Rattle.cayley.specs.Mixed.{IsAlive}
 use Rattle.cayley.specs.Lives.{AliveJustAfter, AliveJustBefore, BeginsAt, EndsAt}
+use Rattle.cayley.proofs.Lists.Pairs.{pairs_map}
 
 -- "for each x" goes into each pair
 pub each_swap : (X : Type 0) (supports : List (List Point)) (cell : Cell) (P : X → List Point → ℕ → ℕ → Type 0) → X → ((x : X) → EachPair supports cell (P x)) → EachPair supports cell (λ s a b. (x : X) → P x s a b)
@@ -51,7 +50,7 @@ module _ (p : Problem) (cell : Cell) (well : IsProblem p) (t u : Time) (alive : 
 pub after_none_below : (p : Problem) (cell : Cell) → IsProblem p → (t : Time) (v : Normal) → AliveJustAfter p cell t → IsNormal p cell t v → NoneBelow p cell t v
 after_none_below p cell well t v h n =
     let a = alive_after p cell t h in
-    each_pair-map p.supports cell _ _ (λ s i j k c f.
+    pairs_map p.supports cell _ _ (λ s i j k c f.
     let l = exact_line p cell (point_at s i) (point_at s c) well a.1.0 a.1.1 in
     let q = just_after_to (l.line ∷ []) t h.0 h.1 (λ x b d. (line_then p cell well t h.0 h.2 h.1 a.1.0 a.1.1 s i j c k f x b d, tt)) in
     either_in_proportion (line_at l.line t) (gap t v (point_at s i) (point_at s c)) v.over l.g v.positive l.positive (l.is t v n) (elim q.0 [ inl m ↦ inl m | inr z ↦ inr z.0 ]))
@@ -73,7 +72,7 @@ line_before l t h =
 pub before_none_below : (p : Problem) (cell : Cell) → IsProblem p → (t : Time) (v : Normal) → AliveJustBefore p cell t → IsNormal p cell t v → NoneBelow p cell t v
 before_none_below p cell well t v h n =
     let a = alive_before p cell t h in
-    each_pair-map p.supports cell _ _ (λ s i j k c f.
+    pairs_map p.supports cell _ _ (λ s i j k c f.
     let l = exact_line p cell (point_at s i) (point_at s c) well a.1.0 a.1.1 in
     either_in_proportion (line_at l.line t) (gap t v (point_at s i) (point_at s c)) v.over l.g v.positive l.positive (l.is t v n)
     (line_before l.line t (h.0, h.1, (λ x b d. line_then p cell well h.0 t h.2 h.1 a.1.0 a.1.1 s i j c k f x b d))))

@@ -4,7 +4,7 @@ use Rattle.std.proofs.lemmas.Int.{ints}
 use Rattle.std.proofs.Math.IntN.{ℤ, pos, ◌+ℤ◌, ◌-ℤ◌, ◌*ℤ◌}
 use Rattle.wide_int.proofs.Order.{zero_product}
 use Rattle.int_vectors.specs.Vectors.{IsZero, at, at_place, dot, entries_at}
-use Rattle.int_vectors.proofs.Entries.{at-scale, at-add, not_zero}
+use Rattle.int_vectors.proofs.Entries.{at-scale, at-add, not_zero, at-zero}
 use Rattle.cayley.specs.Times.{Time, time_zero}
 use Rattle.cayley.specs.Problems.{Point, Problem, point_at, IsProblem}
 use Rattle.cayley.specs.Cells.{Cell, IsOf, IsIndependent}
@@ -15,17 +15,17 @@ use Rattle.cayley.specs.StoredTies.{Spot, IsAlwaysLevel}
 use Rattle.cayley.specs.NamedTies.{IsLevelThen}
 use Rattle.cayley.specs.LongerTimes.{HasRanksUpTo, IsZeroPast, LongerTimesLaw}
 use Rattle.cayley.proofs.Algebra.ScaledInverse.{dot-zero}
-use Rattle.cayley.proofs.Algebra.RowNormals.{at-zero}
 use Rattle.cayley.proofs.Lists.KnownPoints.{known_at, known_support, known_pairs}
 use Rattle.cayley.proofs.Order.Lines.{line_at}
-use Rattle.cayley.proofs.Flipping.Neighbours.{potential, gap-potential, dot-sub}
+use Rattle.cayley.proofs.OneCell.Neighbours.{potential, gap-potential, dot-sub}
 use Rattle.cayley.proofs.OneCell.CellLines.{base_of, height-at}
 use Rattle.cayley.proofs.OneCell.CellNormals.{a_normal}
 use Rattle.cayley.proofs.Life.Decisions.{alive_after, alive_before}
 use Rattle.cayley.proofs.Life.Levels.{after_none_below, before_none_below}
 use Rattle.cayley.proofs.Life.Spots.{first_spot}
-use Rattle.cayley.proofs.Life.NamedTies.{points_in, spot_bound, pair_place, place_pair, exact, line, level_to, flat_from, dec_level, level_at_any}
+use Rattle.cayley.proofs.Life.NamedTies.{points_in, spot_bound, pair_place, exact, line, level_to, flat_from, dec_level, level_at_any}
 use Rattle.cayley.proofs.Algebra.Dependence.{length-map}
+use Rattle.cayley.proofs.Lists.Pairs.{pairs_further}
 
 -- ---- entries past the rank
 place_past : (k : ℕ) (q : ℤ) (e : ℕ) → k < e → at (at_place k q) e ≡ pos 0
@@ -121,7 +121,7 @@ module _ (p : Problem) (cell : Cell) (well : IsProblem p) (of : IsOf p cell) (in
       (
         v,
         n,
-        place_pair (λ s a c. IsAbove t v s a c) _ p.supports cell of (λ j c f.
+        pairs_further (λ s a c. IsAbove t v s a c) _ p.supports cell of (λ j c f.
             elim (pair_place (λ s a c. IsAbove t v s a c ⊎ IsLevel t v s a c) p.supports cell below j c f) [
               | inl a ↦ a
               | inr z ↦ absurd (none (suc j, c) (level_at_any p cell well of ind t v j c n f z))

@@ -21,8 +21,9 @@ use Rattle.cayley.proofs.OneCell.CellNormals.{a_normal}
 use Rattle.cayley.proofs.OneCell.CellLines.{ExactLine, exact_line}
 use Rattle.cayley.proofs.Life.Spots.{spot_cases, first_spot, first_two, one_first, same_two}
 use Rattle.cayley.proofs.Life.ShownTies.{shown_tie_law}
-use Rattle.cayley.proofs.Life.Begins.{zero_there}
 use Rattle.cayley.proofs.Life.StillGaps.{not_zero_over}
+use Rattle.cayley.proofs.Lists.Pairs.{pairs_further}
+use Rattle.cayley.proofs.Order.Zeros.{zero_there}
 
 -- ---- further points by their places
 abbrev pub points_in : List (List Point) → ℕ
@@ -53,14 +54,6 @@ pair_place Q (s ∷ supports) [] e j c f = absurd e
 pair_place Q (s ∷ supports) (x ∷ cell) e zero c f = e.0 c f
 pair_place Q (s ∷ supports) (x ∷ cell) e (suc j) c f = pair_place Q supports cell e.1 j c f
 
-pub place_pair : (Q P : List Point → ℕ → ℕ → Type 0) (supports : List (List Point)) (cell : Cell) → EachPair supports cell P
-    → ((j c : ℕ) → IsFurther (nth_support supports j) (pair_at cell j).0 (pair_at cell j).1 c → Q (nth_support supports j) (pair_at cell j).0 c)
-    → EachPair supports cell (λ s a b. (c : ℕ) → IsFurther s a b c → Q s a c)
-place_pair Q P [] [] e f = tt
-place_pair Q P [] (x ∷ cell) e f = e
-place_pair Q P (s ∷ supports) [] e f = e
-place_pair Q P (s ∷ supports) (x ∷ cell) e f = ((λ c h. f 0 c h), place_pair Q P supports cell e.1 (λ j c h. f (suc j) c h))
-
 -- ---- the lines of one cell
 module _ (p : Problem) (cell : Cell) (well : IsProblem p) (of : IsOf p cell) (ind : IsIndependent p cell) where
   abbrev pub exact : (j c : ℕ) → ExactLine p cell (point_at (nth_support p.supports j) (pair_at cell j).0) (point_at (nth_support p.supports j) c)
@@ -90,7 +83,7 @@ module _ (p : Problem) (cell : Cell) (well : IsProblem p) (of : IsOf p cell) (in
       let v = a_normal p cell well of ind t in (
         v.0,
         v.1,
-        place_pair (λ s a c. IsAbove t v.0 s a c ⊎ IsLevel t v.0 s a c) _ p.supports cell of (λ j c f.
+        pairs_further (λ s a c. IsAbove t v.0 s a c ⊎ IsLevel t v.0 s a c) _ p.supports cell of (λ j c f.
             let l = exact j c in
             either_in_proportion (line_at l.line t) (gap t v.0 (point_at (nth_support p.supports j) (pair_at cell j).0) (point_at (nth_support p.supports j) c)) v.0.over l.g v.0.positive l.positive
             (l.is t v.0 v.1) (h j c f)),

@@ -8,7 +8,7 @@ use native.Mathlib.Decide.{ℕ_discrete, dec_le}
 use Rattle.wide_int.proofs.Ring.{as_D, Ds, same_D, D-pos, neg_mul_ℤ}
 use Rattle.wide_int.proofs.Order.{mul_le_ℤ}
 use Rattle.int_vectors.specs.Vectors.{IsZero, IsPositive, dot, at, add, sub, scale, entries_at}
-use Rattle.int_vectors.proofs.Entries.{at-scale, at-add, zero_from}
+use Rattle.int_vectors.proofs.Entries.{at-scale, at-add}
 use Rattle.cayley.specs.Times.{Time, time_zero, IsBefore}
 use Rattle.cayley.specs.Problems.{Point, Problem, point_at, file_points}
 use Rattle.cayley.specs.Cells.{Cell, EachPair, IsOf, IsIndependent, IsFurther}
@@ -16,16 +16,16 @@ use Rattle.cayley.specs.Normals.{Normal, mark, height, gap, IsNormal, AllAbove}
 use Rattle.cayley.specs.Mixed.{IsAlive}
 use Rattle.cayley.specs.Lives.{AliveLate}
 use Rattle.cayley.specs.LifeLaws.{TargetLaw}
-use Rattle.cayley.proofs.Algebra.RowNormals.{at-zero}
-use Rattle.cayley.proofs.Order.Lexicographic.{positive-same, positive-scale}
 use Rattle.cayley.proofs.Order.Lines.{before_trans}
 use Rattle.cayley.proofs.Order.Lined.{further_cases}
-use Rattle.cayley.proofs.Flipping.Neighbours.{potential, gap-potential}
+use Rattle.cayley.proofs.OneCell.Neighbours.{potential, gap-potential}
 use Rattle.cayley.proofs.OneCell.CellLines.{base_of, height-at}
-use Rattle.cayley.proofs.OneCell.RaisedRanks.{resting_value, still_gap, spread, spread_normal, positive_spread, zero_spread}
-use Rattle.cayley.proofs.OneCell.FilePointRanks.{Alike, Alikes, file_points_alike}
+use Rattle.cayley.proofs.OneCell.RaisedRanks.{spread, spread_normal, positive_spread, zero_spread}
+use Rattle.cayley.proofs.Ranking.FilePointRanks.{Alike, Alikes, file_points_alike}
 use Rattle.cayley.proofs.Life.Exits.{later_both}
 use Rattle.cayley.proofs.Algebra.Dependence.{length-map}
+use Rattle.cayley.proofs.Lists.Pairs.{pairs_both}
+use Rattle.cayley.proofs.Life.StillGaps.{gap_zero, gap_positive}
 
 -- ---- at all late times
 record LateOn (P : Time → Type 0) : Type 0 where
@@ -63,13 +63,6 @@ late_pairs [] [] P e = late_always _ (λ x. tt)
 late_pairs [] (pair ∷ cell) P e = absurd e
 late_pairs (s ∷ supports) [] P e = absurd e
 late_pairs (s ∷ supports) (pair ∷ cell) P e = late_both (λ x. P x s pair.0 pair.1) (λ x. EachPair supports cell (P x)) e.0 (late_pairs supports cell P e.1)
-
-pub pair_both : (supports : List (List Point)) (cell : Cell) (P Q R : List Point → ℕ → ℕ → Type 0)
-    → ((s : List Point) (a b : ℕ) → P s a b → Q s a b → R s a b) → EachPair supports cell P → EachPair supports cell Q → EachPair supports cell R
-pair_both [] [] P Q R h d e = tt
-pair_both [] (pair ∷ cell) P Q R h d e = e
-pair_both (s ∷ supports) [] P Q R h d e = e
-pair_both (s ∷ supports) (pair ∷ cell) P Q R h d e = (h s pair.0 pair.1 d.0 e.0, pair_both supports cell P Q R h d.1 e.1)
 
 -- ---- a corner is above at late times
 pub positive_first : (u : List ℤ) → pos 0 <ℤ at u 0 → IsPositive u
@@ -163,22 +156,6 @@ alike_from gs (s ∷ supports) [] cell P Q R h w e d = absurd w
 alike_from gs (s ∷ supports) (u ∷ us) [] P Q R h w e d = e
 alike_from gs (s ∷ supports) (u ∷ us) (x ∷ cell) P Q R h w e d = (h s u x.0 x.1 w.0 e.0 d.0, alike_from gs supports us cell P Q R h w.1 e.1 d.1)
 
--- ---- points of speed 0: a gap doesn't change over time
-pub still_zero : (t : Time) (v : Normal) (p q : Point) → p.speed ≡ pos 0 → q.speed ≡ pos 0 → IsZero (gap time_zero v p q) → IsZero (gap t v p q)
-still_zero t v p q sp sq z = zero_from _ (λ e. still_gap t v p q e sp sq ∙ ap (λ x. t.over *ℤ x) (level e) ∙ *ℤ-zero t.over)
-  where
-    level : (e : ℕ) → resting_value v q e -ℤ resting_value v p e ≡ pos 0
-    level e = let a = still_gap time_zero v p q e sp sq in let b = at-zero (gap time_zero v p q) e z in omega (arith, ints, a, b)
-
-pub still_positive : (t : Time) (v : Normal) (p q : Point) → p.speed ≡ pos 0 → q.speed ≡ pos 0 → IsPositive (gap time_zero v p q) → IsPositive (gap t v p q)
-still_positive t v p q sp sq h = positive-same (scale t.over (gap time_zero v p q)) _ same (positive-scale t.over (gap time_zero v p q) t.positive h)
-  where
-    first : (e : ℕ) → at (gap time_zero v p q) e ≡ resting_value v q e -ℤ resting_value v p e
-    first e = let a = still_gap time_zero v p q e sp sq in omega (arith, ints, a)
-
-    same : (e : ℕ) → at (scale t.over (gap time_zero v p q)) e ≡ at (gap t v p q) e
-    same e = at-scale t.over (gap time_zero v p q) e ∙ ap (λ x. t.over *ℤ x) (first e) ∙ sym (still_gap t v p q e sp sq)
-
 -- ---- the cell in the path
 module _ (gs : List ℕ) (p goal : Problem) (cell : Cell) (w : Alikes gs p.supports goal.supports) (ld : p.dimension ≡ goal.dimension) (mixed : IsAlive goal cell time_zero) where
   v : Normal
@@ -207,13 +184,13 @@ module _ (gs : List ℕ) (p goal : Problem) (cell : Cell) (w : Alikes gs p.suppo
       let n = mixed.2.0 in
       let Z : List Point → ℕ → ℕ → Type 0 = λ u a b. IsZero (gap time_zero n (point_at u a) (point_at u b)) in
       let OZ : List Point → ℕ → ℕ → Type 0 = λ u a b. Ordered u a b × IsZero (gap time_zero n (point_at u a) (point_at u b)) in
-      let oz = pair_both goal.supports cell Ordered Z OZ (λ u a b o z. (o, z)) mixed.0 mixed.2.1.1 in (
+      let oz = pairs_both goal.supports cell Ordered Z OZ (λ u a b o z. (o, z)) mixed.0 mixed.2.1.1 in (
         length-map (spread gs) n.entries ∙ mixed.2.1.0 ∙ sym ld,
         alike_to gs p.supports goal.supports cell OZ (λ s a b. IsZero (gap t (spread_normal gs n) (point_at s a) (point_at s b)))
             (λ s u a b k x.
             let ra = k.file a x.0.0 (let y = x.0.1 in let z = x.0.2 in omega (arith, y, z)) in
             let rb = k.file b (let y = x.0.0 in let z = x.0.1 in omega (arith, y, z)) x.0.2 in
-            still_zero t (spread_normal gs n) (point_at s a) (point_at s b) ra.still rb.still
+            gap_zero time_zero t (spread_normal gs n) (point_at s a) (point_at s b) ra.still rb.still
             (zero_spread gs n (point_at u a) (point_at u b) (point_at s a) (point_at s b) ra rb x.1))
             w oz,
       )
@@ -224,7 +201,7 @@ module _ (gs : List ℕ) (p goal : Problem) (cell : Cell) (w : Alikes gs p.suppo
       let n = mixed.2.0 in
       let A : List Point → ℕ → ℕ → Type 0 = λ u a b. (c : ℕ) → IsFurther u a b c → IsPositive (gap time_zero n (point_at u a) (point_at u c)) in
       let OA : List Point → ℕ → ℕ → Type 0 = λ u a b. Ordered u a b × ((c : ℕ) → IsFurther u a b c → IsPositive (gap time_zero n (point_at u a) (point_at u c))) in
-      let oa = pair_both goal.supports cell Ordered A OA (λ u a b o z. (o, z)) mixed.0 mixed.2.2 in
+      let oa = pairs_both goal.supports cell Ordered A OA (λ u a b o z. (o, z)) mixed.0 mixed.2.2 in
       late_pairs p.supports cell (λ t s a b. (c : ℕ) → IsFurther s a b c → IsPositive (gap t (spread_normal gs n) (point_at s a) (point_at s c)))
       (alike_to gs p.supports goal.supports cell OA (λ s a b. LateOn (λ t. (c : ℕ) → IsFurther s a b c → IsPositive (gap t (spread_normal gs n) (point_at s a) (point_at s c))))
       (λ s u a b k x. late_further s a b (λ c t. IsPositive (gap t (spread_normal gs n) (point_at s a) (point_at s c))) (λ c f.
@@ -233,7 +210,7 @@ module _ (gs : List ℕ) (p goal : Problem) (cell : Cell) (w : Alikes gs p.suppo
         | yes m ↦
             let rc = k.file c f.0 m in
             late_always (λ t. IsPositive (gap t (spread_normal gs n) (point_at s a) (point_at s c))) (λ t.
-            still_positive t (spread_normal gs n) (point_at s a) (point_at s c) ra.still rc.still
+            gap_positive time_zero t (spread_normal gs n) (point_at s a) (point_at s c) ra.still rc.still
             (positive_spread gs n (point_at u a) (point_at u c) (point_at s a) (point_at s c) ra rc (x.1 c (f.0, m, f.2, f.3))))
         | no m ↦ corner_late (spread_normal gs n) (point_at s a) (point_at s c) ra.still (k.corner c (omega arith) f.1)
       ]))

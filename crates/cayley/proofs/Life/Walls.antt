@@ -3,7 +3,6 @@ use Rattle.std.proofs.Common.{◌⊎◌, ◌↔◌, ℕ, List, [], ◌∷◌, re
 use Rattle.std.proofs.Math.IntN.{pos}
 use Rattle.cayley.proofs.Order.Lines.{Line, line_at, AllPositive, zero_of}
 use Rattle.cayley.proofs.OneCell.CellNormals.{a_normal}
-use Rattle.cayley.proofs.Order.Soon.{each_pair-map}
 use Rattle.cayley.proofs.Searching.Listing.{Has}
 use Rattle.cayley.proofs.Order.Times.{Same}
 use Rattle.cayley.proofs.Order.Lined.{Lined, rise_of, each_has}
@@ -16,6 +15,7 @@ use Rattle.cayley.specs.Normals.{Normal, gap, IsNormal}
 use Rattle.cayley.specs.Cells.{Cell, EachPair, IsOf, IsIndependent, IsFurther}
 use Rattle.cayley.specs.Mixed.{IsAlive}
 use Rattle.cayley.specs.Lives.{AliveEarly, BeginsAt, AliveLate, EndsAt}
+use Rattle.cayley.proofs.Lists.Pairs.{pairs_map}
 
 -- the line is positive exactly where the point c is above
 abbrev pub TellsAbove : Problem → Cell → Point → Point → Line → Type 0
@@ -50,7 +50,7 @@ module _ (p : Problem) (cell : Cell) (well : IsProblem p) (of : IsOf p cell) (in
   walls_from : (t : Time) → AllPositive ls t → IsAlive p cell t
   walls_from t h =
       let v = a_normal p cell well of ind t in
-      (of, ind, (v.0, v.1, each_pair-map p.supports cell _ _ (λ s a b k c f. let q = k c f in (q.2 t v.0 v.1).0 (each_has (λ l. IsPositive (line_at l t)) ls q.0 h q.1)) walls.all))
+      (of, ind, (v.0, v.1, pairs_map p.supports cell _ _ (λ s a b k c f. let q = k c f in (q.2 t v.0 v.1).0 (each_has (λ l. IsPositive (line_at l t)) ls q.0 h q.1)) walls.all))
 
   pub lined_walls : Lined (IsAlive p cell)
   lined_walls = record { list = ls; to = walls_to; from = walls_from }

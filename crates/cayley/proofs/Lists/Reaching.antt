@@ -13,7 +13,7 @@ use Rattle.cayley.specs.Stored.{point, unranked_of}
 use Rattle.cayley.specs.Valid.{IsCoordinate, IsCornerCoordinate}
 use Rattle.cayley.specs.declared.points.Point.{Point as StoredPoint}
 use Rattle.cayley.specs.declared.points.Support.{Support}
-use Rattle.cayley.proofs.Lists.Each.{each_all, each_map, each_weaker}
+use Rattle.int_vectors.proofs.Each.{each_all, each_map, each_weaker}
 
 -- one more element of a list under a bound that may grow
 pub more : {A : Type 0} (P : ℕ → A → Type 0) → ((v w : ℕ) (x : A) → v ≤ w → P v x → P w x) → (v w own : ℕ) (xs : List A) (i : ℕ) (x : A) → i < length xs → x ≡ get_or xs i x → v ≤ w → own ≤ w

@@ -8,7 +8,7 @@ use Rattle.cayley.specs.declared.points.Support.{Support}
 use Rattle.cayley.specs.Stored.{point, unranked_of}
 use Rattle.cayley.specs.Problems.{Point, Problem, EachSupport, HasCorners}
 use Rattle.cayley.specs.Valid.{IsCoordinate, IsCornerCoordinate, IsWithinProblem, IsWithinCorners, IsValidProblem}
-use Rattle.cayley.proofs.Lists.Each.{all_each, each_append, each_both, each_unmap, each_weaker}
+use Rattle.int_vectors.proofs.Each.{all_each, each_append, each_both, each_unmap, each_weaker}
 
 pub each_support_long : (P : ℕ → ℕ → List Point → Type 0) (i : ℕ) (fs : List ℕ) (ss : List (List Point)) → EachSupport i fs ss P → length fs ≡ length ss
 each_support_long P i [] [] h = refl

@@ -13,7 +13,7 @@ use Rattle.cayley.specs.Cells.{EachPair}
 use Rattle.cayley.specs.Problems.{Point, origin, point_at}
 use Rattle.cayley.specs.Rows.{edge_row, edge_rows_from, unit_row}
 use Rattle.cayley.specs.Valid.{IsCornerCoordinate}
-use Rattle.cayley.proofs.Lists.Each.{all_each}
+use Rattle.int_vectors.proofs.Each.{all_each}
 use Rattle.cayley.proofs.OneCell.CellRows.{length-unit_row}
 
 pub abs_sub : (x y : ℤ) → unsigned_abs x ≤ 33000000 → unsigned_abs y ≤ 33000000 → unsigned_abs (x -ℤ y) ≤ 66000000

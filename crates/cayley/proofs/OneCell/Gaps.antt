@@ -4,12 +4,12 @@ use Rattle.std.proofs.lemmas.Int.{ints}
 use Rattle.std.proofs.Math.IntN.{ℤ, pos, ◌+ℤ◌, ◌*ℤ◌, neg_ℤ, *ℤ-zero}
 use Rattle.wide_int.proofs.Ring.{as_D, Ds, same_D}
 use Rattle.cayley.proofs.Algebra.ScaledInverse.{dot-add, dot-scale, dot-zero}
-use Rattle.cayley.proofs.Algebra.RowNormals.{gap-at, at-zero}
+use Rattle.cayley.proofs.Algebra.RowNormals.{gap-at}
 use Rattle.cayley.proofs.OneCell.CellNormals.{one_normal}
 use Rattle.cayley.proofs.Order.Times.{Same}
-use Rattle.cayley.proofs.Flipping.Neighbours.{potential, gap-potential}
+use Rattle.cayley.proofs.OneCell.Neighbours.{potential, gap-potential}
 use Rattle.int_vectors.specs.Vectors.{scale, add, sub, dot, at, at_place, entries_at}
-use Rattle.int_vectors.proofs.Entries.{at-scale, at-add}
+use Rattle.int_vectors.proofs.Entries.{at-scale, at-add, at-zero}
 use Rattle.cayley.specs.Times.{Time}
 use Rattle.cayley.specs.Problems.{Point, Problem, IsProblem}
 use Rattle.cayley.specs.Normals.{Normal, height, gap, mark, IsNormal}

@@ -8,14 +8,13 @@ use Rattle.std.proofs.Math.IntN.{ℤ, pos, ◌+ℤ◌, ◌-ℤ◌, ◌*ℤ◌, n
 use Rattle.wide_int.proofs.Ring.{as_D, Ds, same_D, D-pos}
 use Rattle.wide_int.proofs.Order.{mul_pos_ℤ}
 use Rattle.int_vectors.specs.Vectors.{Each, IsZero, IsPositive, add, sub, scale, dot, at, entries_at}
-use Rattle.int_vectors.proofs.Entries.{at-scale, at-add, zero_from}
+use Rattle.int_vectors.proofs.Entries.{at-scale, at-add, zero_from, at-zero}
 use Rattle.cayley.specs.Times.{Time}
 use Rattle.cayley.specs.Problems.{Point, Problem, IsProblem, origin, point_at}
 use Rattle.cayley.specs.Cells.{Cell, EachPair, IsOf, IsIndependent, IsFurther}
 use Rattle.cayley.specs.Normals.{Normal, mark, height, gap, IsNormal, values}
 use Rattle.cayley.specs.Mixed.{IsAlive}
-use Rattle.cayley.proofs.Algebra.RowNormals.{gap-at, at-zero}
-use Rattle.cayley.proofs.Order.Soon.{each_pair-map}
+use Rattle.cayley.proofs.Algebra.RowNormals.{gap-at}
 use Rattle.cayley.proofs.OneCell.OneNormal.{all_above_any}
 use Rattle.cayley.proofs.Life.Ends.{Late}
 use Rattle.cayley.proofs.Searching.ComputedLaw.{late_from}
@@ -25,7 +24,8 @@ use Rattle.cayley.proofs.Order.Proportion.{in_proportion}
 use Rattle.cayley.proofs.Order.Times.{turned}
 use Rattle.cayley.proofs.Order.Lines.{Line, line_at, SignAfter}
 use Rattle.cayley.proofs.OneCell.CellLines.{base_of, height-at}
-use Rattle.cayley.proofs.Lists.Each.{each_append}
+use Rattle.int_vectors.proofs.Each.{each_append}
+use Rattle.cayley.proofs.Lists.Pairs.{pairs_map}
 
 -- over p / den moving by q / den: the values (Q p + P q) / (Q den) at the time P / Q
 pub record Moving : Type 0 where
@@ -226,8 +226,7 @@ module _ (p : Problem) (cell : Cell) (well : IsProblem p) (of : IsOf p cell) (in
   unfolding moving
   moving_normal t = (
     long_values t m.starts m.slopes m.long ∙ frame.0,
-    each_pair-map p.supports cell _ _
-        (λ s a b h. zero_from (gap t (moving m t) (point_at s a) (point_at s b)) (λ e. moving_gap m t (point_at s a) (point_at s b) e ∙ ap (λ x. t.over *ℤ x) (flat_line (wall m (point_at s a) (point_at s b)) t e h.0 h.1) ∙ *ℤ-zero t.over))
+    pairs_map p.supports cell _ _ (λ s a b h. zero_from (gap t (moving m t) (point_at s a) (point_at s b)) (λ e. moving_gap m t (point_at s a) (point_at s b) e ∙ ap (λ x. t.over *ℤ x) (flat_line (wall m (point_at s a) (point_at s b)) t e h.0 h.1) ∙ *ℤ-zero t.over))
         frame.1,
   )
 
@@ -237,14 +236,14 @@ module _ (p : Problem) (cell : Cell) (well : IsProblem p) (of : IsOf p cell) (in
     list = walls m p.supports cell;
     to = λ t h.
         all_walls (λ l. IsPositive (line_at l t)) m p.supports cell
-        (each_pair-map p.supports cell _ _ (λ s a b k c f. gap_positive m t (point_at s a) (point_at s c) (k c f)) (all_above_any p cell t (moving m t) well (moving_normal t) h));
+        (pairs_map p.supports cell _ _ (λ s a b k c f. gap_positive m t (point_at s a) (point_at s c) (k c f)) (all_above_any p cell t (moving m t) well (moving_normal t) h));
     from = λ t h. (
       of,
       ind,
       (
         moving m t,
         moving_normal t,
-        each_pair-map p.supports cell _ _ (λ s a b k c f. positive_gap m t (point_at s a) (point_at s c) (k c f)) (walls_all (λ l. IsPositive (line_at l t)) m _ p.supports cell of h),
+        pairs_map p.supports cell _ _ (λ s a b k c f. positive_gap m t (point_at s a) (point_at s c) (k c f)) (walls_all (λ l. IsPositive (line_at l t)) m _ p.supports cell of h),
       ),
     );
   }

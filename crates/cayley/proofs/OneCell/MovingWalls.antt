@@ -14,11 +14,11 @@ use Rattle.cayley.proofs.Order.Proportion.{in_proportion, zero_in_proportion}
 use Rattle.cayley.proofs.Order.Lines.{Line, line_at}
 use Rattle.cayley.proofs.Searching.Listing.{Has}
 use Rattle.cayley.proofs.Order.Lined.{each_has}
-use Rattle.cayley.proofs.Order.Soon.{each_pair-map}
 use Rattle.cayley.proofs.OneCell.Gaps.{gap_two}
 use Rattle.cayley.proofs.OneCell.CellLines.{ExactLine}
 use Rattle.cayley.proofs.Life.Walls.{TellsAbove, SomeFurther, IsWalls}
 use Rattle.cayley.proofs.OneCell.MovingNormals.{Moving, moving, IsFrame, wall, walls, moving_gap, moving_normal, all_walls, walls_all, FurtherHas}
+use Rattle.cayley.proofs.Lists.Pairs.{pairs_map}
 
 each_self : (ls : List Line) → Each ls (λ l. Has l ls)
 each_self [] = tt
@@ -36,7 +36,7 @@ some_further P m Q [] (x ∷ cell) o f = absurd o
 some_further P m Q (s ∷ supports) [] o f = absurd o
 some_further P m Q (s ∷ supports) (x ∷ cell) o f = (
   (λ c h. inl (c, h, f (point_at s x.0) (point_at s c))),
-  each_pair-map supports cell _ _ (λ k a b g c h. inr (g c h)) (some_further P m Q supports cell o.1 f),
+  pairs_map supports cell _ _ (λ k a b g c h. inr (g c h)) (some_further P m Q supports cell o.1 f),
 )
 
 module _ (p : Problem) (cell : Cell) (well : IsProblem p) (of : IsOf p cell) (ind : IsIndependent p cell) (m : Moving) (frame : IsFrame p cell m) where
@@ -95,6 +95,6 @@ module _ (p : Problem) (cell : Cell) (well : IsProblem p) (of : IsOf p cell) (in
   frame_walls = record {
     sound = λ l h. each_has (λ l. SomeFurther p.supports cell (λ a c. TellsAbove p cell a c l)) (walls m p.supports cell) l
         (all_walls (λ l. SomeFurther p.supports cell (λ a c. TellsAbove p cell a c l)) m p.supports cell (some_further (λ l a c. TellsAbove p cell a c l) m _ p.supports cell of wall_above)) h;
-    all = each_pair-map p.supports cell _ _ (λ s a b g c f. (wall m (point_at s a) (point_at s c), g c f, wall_above (point_at s a) (point_at s c)))
+    all = pairs_map p.supports cell _ _ (λ s a b g c f. (wall m (point_at s a) (point_at s c), g c f, wall_above (point_at s a) (point_at s c)))
         (walls_all (λ l. Has l (walls m p.supports cell)) m _ p.supports cell of (each_self (walls m p.supports cell)));
   }

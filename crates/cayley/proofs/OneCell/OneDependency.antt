@@ -8,16 +8,13 @@ use Rattle.cayley.proofs.Order.Lexicographic.{minus_one}
 use Rattle.cayley.proofs.Order.Proportion.{in_proportion, zero_in_proportion}
 use Rattle.cayley.proofs.Algebra.ScaledInverse.{dot-zero}
 use Rattle.cayley.proofs.Algebra.RowDependencies.{IsDependency, multiple}
-use Rattle.cayley.proofs.Algebra.RowNormals.{at-zero}
 use Rattle.cayley.proofs.OneCell.CellNormals.{long-edges, rows_independent, long_rows}
 use Rattle.cayley.proofs.OneCell.CellLines.{a_dependency}
-use Rattle.cayley.proofs.Flipping.Neighbours.{potential, gap-potential, dot-sub}
-use Rattle.cayley.proofs.Order.Soon.{each_pair-map}
-use Rattle.cayley.proofs.OneCell.CellNumbers.{total-lin, total-nothing, total-same, against, pair_row}
-use Rattle.cayley.proofs.Flipping.Places.{pairs_long, further_bound}
-use Rattle.cayley.proofs.Flipping.FlipScenes.{InRange}
+use Rattle.cayley.proofs.OneCell.Neighbours.{potential, gap-potential, dot-sub}
+use Rattle.cayley.proofs.Flipping.CellNumbers.{total-lin, total-nothing, total-same, against, pair_row}
+use Rattle.cayley.proofs.Flipping.Places.{further_bound}
 use Rattle.int_vectors.specs.Vectors.{weigh, IsZero, Each, scale, add, sub, dot, at, zeros, entries_at}
-use Rattle.int_vectors.proofs.Entries.{at-scale, at-add, length-zeros}
+use Rattle.int_vectors.proofs.Entries.{at-scale, at-add, length-zeros, at-zero}
 use Rattle.cayley.specs.Problems.{Point, origin, Problem, point_at, IsProblem}
 use Rattle.cayley.specs.Times.{Time}
 use Rattle.cayley.specs.Normals.{Normal, height, gap, IsNormal}
@@ -26,6 +23,8 @@ use Rattle.cayley.specs.Dependencies.{Numbers, SumsAreZero, total, IsDependencyW
 use Rattle.cayley.specs.Laws.{Sides, OneDependency}
 use Rattle.cayley.specs.Rows.{edges}
 use Rattle.cayley.proofs.Algebra.Dependence.{length-map}
+use Rattle.cayley.proofs.Lists.Pairs.{pairs_map, pairs_long}
+use Rattle.cayley.proofs.OneCell.CellRows.{InRange}
 
 -- ---- the sign
 total-two : (ms : List (ℤ × ℤ)) (supports : List (List Point)) (cell : Cell) (a b : ℤ) (f g : Point → ℤ) → total ms supports cell (λ q. a *ℤ f q +ℤ b *ℤ g q) ≡ a *ℤ total ms supports cell f +ℤ b *ℤ total ms supports cell g
@@ -100,8 +99,7 @@ sum_gap p cell j c numbers bound long d t v is e =
     let q = point_at (nth_support p.supports j) c in
     let a = point_at (nth_support p.supports j) (pair_at cell j).0 in
     let w = entries_at e v.entries in
-    let even = each_pair-map p.supports cell (λ s a b. IsZero (gap t v (point_at s a) (point_at s b))) (λ s a b. potential t v (point_at s b) e ≡ potential t v (point_at s a) e)
-    (λ s a b z. let h = sym (gap-potential t v (point_at s a) (point_at s b) e) ∙ at-zero (gap t v (point_at s a) (point_at s b)) e z in omega (arith, ints, h)) is.1 in
+    let even = pairs_map p.supports cell (λ s a b. IsZero (gap t v (point_at s a) (point_at s b))) (λ s a b. potential t v (point_at s b) e ≡ potential t v (point_at s a) e) (λ s a b z. let h = sym (gap-potential t v (point_at s a) (point_at s b) e) ∙ at-zero (gap t v (point_at s a) (point_at s b)) e z in omega (arith, ints, h)) is.1 in
     let one = total_level ms p.supports cell j g (λ r. potential t v r e) long (pairs_long p.supports cell _ is.1) bound d.1 even in
     let two = total-two ms p.supports cell t.over v.over (λ r. dot r.coordinates w) (λ r. at (height t r) e) in
     let three = against ms p.supports cell g q d.2 p.dimension w (length-map (λ u. at u e) v.entries ∙ is.0) in

@@ -12,9 +12,9 @@ use Rattle.cayley.specs.Normals.{Normal, gap, IsNormal, AllAbove, HasSameValues}
 use Rattle.cayley.specs.Mixed.{IsAlive}
 use Rattle.cayley.specs.Laws.{OneNormal, AliveByAnyNormal}
 use Rattle.cayley.proofs.OneCell.CellNormals.{a_normal, one_normal}
-use Rattle.cayley.proofs.Order.Soon.{each_pair-map}
 use Rattle.cayley.proofs.OneCell.Gaps.{gap_two}
 use Rattle.cayley.proofs.Algebra.Dependence.{length-map}
+use Rattle.cayley.proofs.Lists.Pairs.{pairs_map}
 
 -- a difference that is zero, of lists of one length
 pub same_lists : (a b : ℤ) (xs ys : List ℤ) → length xs ≡ length ys → IsZero (add (scale a xs) (scale (neg_ℤ b) ys)) → scale a xs ≡ scale b ys
@@ -37,8 +37,7 @@ one_normal_law p cell t well of ind = (a_normal p cell well of ind t, λ v w. sa
 -- alive: all further points are above at every normal
 pub all_above_any : (p : Problem) (cell : Cell) (t : Time) (v : Normal) → IsProblem p → IsNormal p cell t v → IsAlive p cell t → AllAbove p cell t v
 all_above_any p cell t v well n h =
-    each_pair-map p.supports cell _ _
-    (λ s a b k c f. in_proportion (gap t h.2.0 (point_at s a) (point_at s c)) (gap t v (point_at s a) (point_at s c)) v.over h.2.0.over v.positive h.2.0.positive
+    pairs_map p.supports cell _ _ (λ s a b k c f. in_proportion (gap t h.2.0 (point_at s a) (point_at s c)) (gap t v (point_at s a) (point_at s c)) v.over h.2.0.over v.positive h.2.0.positive
     (λ e. gap_two p cell well h.0 h.1 t h.2.0 v h.2.1 n (point_at s a) (point_at s c) e) (k c f))
     h.2.2
 

@@ -10,7 +10,7 @@ use Rattle.cayley.specs.Rows.{edge_rows_from}
 use Rattle.cayley.specs.Normals.{height, gap}
 use Rattle.cayley.specs.Resting.{normal_over, rise}
 use Rattle.cayley.proofs.OneCell.CellRows.{HaveLength, InRange, pairs_orthogonal}
-use Rattle.cayley.proofs.Order.Soon.{each_pair-map}
+use Rattle.cayley.proofs.Lists.Pairs.{pairs_map}
 
 -- a list of numbers as a list of values
 abbrev pub values : List ℤ → List (List ℤ)
@@ -62,8 +62,7 @@ zero_gap ps den h a c ra rc z = subst IsZero (sym (gap_is ps den h a c ra rc)) (
 pub level_from : (n i : ℕ) (supports : List (List Point)) (cell : Cell) (ps : List ℤ) (den : ℤ) → length ps ≡ n → HaveLength n supports → EachPair supports cell InRange
     → IsOrthogonal (edge_rows_from n i supports cell) (ps ++ (den ∷ [])) → EachPair supports cell (λ s a b. rise den ps (point_at s a) (point_at s b) ≡ pos 0)
 level_from n i supports cell ps den l well of e =
-    each_pair-map supports cell _ _
-    (λ s a b h. turned (dot (sub (point_at s b).coordinates (point_at s a).coordinates) ps) ((point_at s b).base -ℤ (point_at s a).base) den h)
+    pairs_map supports cell _ _ (λ s a b h. turned (dot (sub (point_at s b).coordinates (point_at s a).coordinates) ps) ((point_at s b).base -ℤ (point_at s a).base) den h)
     (pairs_orthogonal n i supports cell ps (den ∷ []) l (omega arith) well of e)
   where
     turned : (s x d : ℤ) → s +ℤ (x *ℤ d +ℤ pos 0) ≡ pos 0 → d *ℤ x +ℤ s ≡ pos 0

@@ -5,18 +5,17 @@ use Rattle.std.proofs.Math.IntN.{ℤ, pos, ◌+ℤ◌, ◌*ℤ◌, neg_ℤ, ℤ_
 use native.Mathlib.Decide.{ℕ_discrete, dec_le}
 use Rattle.wide_int.proofs.Ring.{as_D, Ds, same_D}
 use Rattle.wide_int.proofs.Order.{sign_cases}
-use Rattle.cayley.proofs.Algebra.RowNormals.{at-zero}
 use Rattle.cayley.proofs.Order.Lexicographic.{positive-same, positive-scale, positive-unscale, not_both, three, minus_one}
 use Rattle.cayley.proofs.Order.Lines.{Line, line_at, Before, AllPositive, SignAfter, just_after_from, just_after_to, before_trans, zero_of, before_zero, later, earlier, middle}
 use Rattle.cayley.proofs.Searching.Listing.{Has}
 use Rattle.cayley.proofs.Order.Times.{Same, same_sym, later-self, time_cases, less, turned, turned_one, turned_both, turned_back, sooner, same_before, before_same}
 use Rattle.int_vectors.specs.Vectors.{Each, IsZero, IsPositive, scale, at}
-use Rattle.int_vectors.proofs.Entries.{at-scale, at-add, zero_from, not_zero}
+use Rattle.int_vectors.proofs.Entries.{at-scale, at-add, zero_from, not_zero, at-zero}
 use Rattle.cayley.specs.Times.{Time, time_zero, IsBefore}
 use Rattle.cayley.specs.Problems.{Point}
 use Rattle.cayley.specs.Cells.{Cell, EachPair, IsFurther}
 use Rattle.cayley.proofs.Algebra.RowDependencies.{each-left, each-right}
-use Rattle.cayley.proofs.Lists.Each.{each_append}
+use Rattle.int_vectors.proofs.Each.{each_append}
 
 pub record Lined (P : Time → Type 0) : Type 0 where
   pub list : List Line

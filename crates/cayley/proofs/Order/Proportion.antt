@@ -4,9 +4,8 @@ use Rattle.std.proofs.lemmas.Int.{ints}
 use Rattle.std.proofs.Math.IntN.{ℤ, pos, ◌*ℤ◌, *ℤ-zero}
 use Rattle.wide_int.proofs.Order.{zero_product}
 use Rattle.int_vectors.specs.Vectors.{IsZero, IsPositive, scale, at}
-use Rattle.int_vectors.proofs.Entries.{at-scale, zero_from}
+use Rattle.int_vectors.proofs.Entries.{at-scale, zero_from, at-zero}
 use Rattle.cayley.proofs.Order.Lexicographic.{positive-same, positive-scale, positive-unscale}
-use Rattle.cayley.proofs.Algebra.RowNormals.{at-zero}
 
 pub in_proportion : (u g : List ℤ) (k m : ℤ) → pos 0 <ℤ k → pos 0 <ℤ m → ((e : ℕ) → k *ℤ at u e ≡ m *ℤ at g e) → IsPositive u → IsPositive g
 in_proportion u g k m pk pm e p =

@@ -6,19 +6,18 @@ use native.Mathlib.Decide.{ℕ_discrete}
 use Rattle.wide_int.proofs.Ring.{as_D, Ds, same_D, D-pos}
 use Rattle.wide_int.proofs.Order.{sign_cases}
 use Rattle.int_vectors.specs.Vectors.{Each, IsZero, IsPositive, at, scale}
-use Rattle.int_vectors.proofs.Entries.{at-scale, at-add, zero_from, not_zero}
+use Rattle.int_vectors.proofs.Entries.{at-scale, at-add, zero_from, not_zero, at-zero}
 use Rattle.cayley.specs.Times.{Time}
-use Rattle.cayley.proofs.Algebra.RowNormals.{at-zero}
-use Rattle.cayley.proofs.Lists.Each.{each_append}
+use Rattle.int_vectors.proofs.Each.{each_append}
 use Rattle.cayley.proofs.Order.Lexicographic.{positive-same, not_both, zero-scale}
 use Rattle.cayley.proofs.Order.Lines.{Line, line_at, Before, NotNegative, rises, level}
 use Rattle.cayley.proofs.Order.Proportion.{zero_in_proportion}
 use Rattle.cayley.proofs.Order.Times.{Same, same_sym, time_cases, turned, turned_one, turned_both}
-use Rattle.cayley.proofs.Order.Mirror.{turned_is}
+use Rattle.cayley.proofs.Life.Mirror.{turned_is}
 use Rattle.cayley.proofs.Order.Lined.{rise_of, before_rise, own_zero, each_has, line_same, turned_line, turn-back}
-use Rattle.cayley.proofs.Life.Begins.{RisenBy, last_rise, zero_there}
-use Rattle.cayley.proofs.Life.Crossings.{falls_back}
+use Rattle.cayley.proofs.Life.Begins.{RisenBy, last_rise}
 use Rattle.cayley.proofs.Algebra.RowDependencies.{each-left, each-right}
+use Rattle.cayley.proofs.Order.Zeros.{zero_there, falls_back}
 
 -- ---- one line
 -- a line that is level and zero is zero at all times

@@ -2,11 +2,10 @@
 use Rattle.std.proofs.Common.{◌≡◌, ℕ, arith, sym, ap, ◌∙◌, inl, inr}
 use Rattle.std.proofs.Math.IntN.{ℤ, pos, ◌+ℤ◌, ◌*ℤ◌, neg_ℤ, *ℤ-zero}
 use Rattle.wide_int.proofs.Ring.{as_D, Ds, same_D, D-pos}
-use Rattle.cayley.proofs.Algebra.RowNormals.{at-zero}
 use Rattle.cayley.proofs.Order.Lexicographic.{positive-same, three, minus_one}
 use Rattle.cayley.proofs.Order.Lines.{later, Before, NotNegative, positive_mix, before_trans, next, before_next, flip_negative}
 use Rattle.int_vectors.specs.Vectors.{IsZero, scale, at}
-use Rattle.int_vectors.proofs.Entries.{at-scale, at-add, zero_from, not_zero}
+use Rattle.int_vectors.proofs.Entries.{at-scale, at-add, zero_from, not_zero, at-zero}
 use Rattle.cayley.specs.Times.{Time}
 
 -- the same time, maybe written over another number

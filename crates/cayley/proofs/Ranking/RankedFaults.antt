@@ -7,7 +7,7 @@ use Rattle.cayley.specs.declared.faults.ShapeFault.TheVariants.{BadShape, Repeat
 use Rattle.cayley.specs.Problems.{Version, Point, with_rank, ranked_supports}
 use Rattle.cayley.specs.Shapes.{IsRepeat, IsFirst, IsOutsideOf, IsFaultyOf, IsPlaceFault, IsProblemFault}
 use Rattle.cayley.specs.Valid.{IsWithinProblem, IsWithinCorners}
-use Rattle.cayley.proofs.OneCell.Unperturbed.{unranked, point_unranked}
+use Rattle.cayley.proofs.Ranking.Unperturbed.{unranked, point_unranked}
 use Rattle.cayley.proofs.Ranking.RankedProblems.{unmade, ranked, same_ranked, ranked_still, still_ranked, shape_ranked, ranked_shape, coordinates_unranked}
 
 pub read_support : (ss : List (List Point)) (k : ℕ) → slice_index_or (map unranked ss) k [] ≡ unranked (slice_index_or ss k [])

@@ -6,8 +6,8 @@ use Rattle.int_vectors.specs.Vectors.{Each}
 use Rattle.cayley.specs.Problems.{Version, Point, Problem, EachSupport, HasNoCorners, HasCorners, IsStill, HasRanks, with_rank, ranked_supports}
 use Rattle.cayley.specs.Problems.Version.{version1}
 use Rattle.cayley.specs.Valid.{IsWithinProblem, IsWithinCorners, AreDistinct, IsMoving, HasProblemShape, IsValidProblem}
-use Rattle.cayley.proofs.Lists.Each.{map_map, map_take, map_drop}
-use Rattle.cayley.proofs.OneCell.Unperturbed.{unranked, same_well}
+use Rattle.int_vectors.proofs.Each.{map_map, map_take, map_drop}
+use Rattle.cayley.proofs.Ranking.Unperturbed.{unranked, same_well}
 use Rattle.cayley.proofs.Ranking.Unranked.{unranked_ranked, ranked_twice}
 
 -- a property of each support that doesn't look at ranks

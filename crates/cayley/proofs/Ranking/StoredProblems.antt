@@ -16,9 +16,9 @@ use Rattle.cayley.specs.declared.faults.ShapeFault.{ShapeFault}
 use Rattle.cayley.specs.Shapes.{IsProblemFault}
 use Rattle.cayley.specs.Stored.{point, unranked_of, problem_of}
 use Rattle.cayley.specs.Valid.{IsCornerCoordinate, IsValidProblem, support_at, file_count_at}
-use Rattle.cayley.proofs.Lists.Each.{all_each, each_all, each_unmap, each_weaker, map_at, map_map, map_same, same_read}
+use Rattle.int_vectors.proofs.Each.{all_each, each_all, each_unmap, each_weaker, map_at, map_map, map_same, same_read}
 use Rattle.cayley.proofs.Lists.Supports.{few_points, stored_points, each_support_at}
-use Rattle.cayley.proofs.OneCell.Unperturbed.{unranked, point_unranked}
+use Rattle.cayley.proofs.Ranking.Unperturbed.{unranked, point_unranked}
 use Rattle.cayley.proofs.Ranking.FirstRanks.{numbered_at, firsts_few, length-firsts, points_of}
 use Rattle.cayley.proofs.Ranking.RankedFaults.{read_support, ranked_fault}
 use Rattle.cayley.proofs.Ranking.RankedProblems.{first_shape, valid_by, same_still, ranked_valid}

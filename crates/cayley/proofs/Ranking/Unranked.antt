@@ -4,7 +4,7 @@ use Rattle.std.specs.Prelude.{min}
 use Rattle.std.proofs.lemmas.List.{length-map}
 use Rattle.cayley.specs.Problems.{Version, Point, with_rank, is_start_corner, numbered, ranks_in, numbered_supports, ranked_supports}
 use Rattle.cayley.specs.Problems.Version.{version1, version2}
-use Rattle.cayley.proofs.OneCell.Unperturbed.{unranked}
+use Rattle.cayley.proofs.Ranking.Unperturbed.{unranked}
 
 pub unranked_twice : (s : List Point) → unranked (unranked s) ≡ unranked s
 unranked_twice [] = refl

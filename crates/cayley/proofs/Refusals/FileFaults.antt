@@ -9,7 +9,7 @@ use Rattle.cayley.specs.Files.{FilePoint, File}
 use Rattle.int_vectors.specs.Vectors.{Each}
 use Rattle.cayley.specs.Shapes.{IsRepeat, IsOutside, IsFaulty, IsFirst, IsFirstStart, IsFileFault, IsPlaceFault, IsSupportFault, file_point_at, file_support}
 use Rattle.cayley.specs.Valid.{IsStart, IsWithinFile, AreDistinct, HasFileShape, IsValidFile}
-use Rattle.cayley.proofs.Lists.Each.{map_at, map_map, each_all, same_read, read_past}
+use Rattle.int_vectors.proofs.Each.{map_at, map_map, each_all, same_read, read_past}
 use Rattle.cayley.proofs.Refusals.Stable.{within_stable}
 use Rattle.cayley.proofs.Refusals.Repeats.{IsAmong, repeat_to, repeat_from}
 

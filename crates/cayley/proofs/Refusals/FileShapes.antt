@@ -10,7 +10,7 @@ use Rattle.cayley.specs.Files.{FilePoint, File}
 use Rattle.cayley.specs.Problems.{Version}
 use Rattle.cayley.specs.Stored.{file_point, file_of}
 use Rattle.cayley.specs.Valid.{HasFileShape}
-use Rattle.cayley.proofs.Lists.Each.{each_all, all_each, each_map, each_unmap, each_weaker, map_map}
+use Rattle.int_vectors.proofs.Each.{each_all, all_each, each_map, each_unmap, each_weaker, map_map}
 
 module _ {X Y Z : Type 0} (items : X → List StoredFilePoint) (numbers : Y → List ℤ) (lists : Z → List Y) where
   abbrev pub HasPoints : ℕ → X → Type 0

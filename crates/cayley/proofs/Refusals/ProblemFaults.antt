@@ -11,7 +11,7 @@ use Rattle.cayley.specs.Problems.{Point, Problem, origin, HasCorners, IsStill, H
 use Rattle.cayley.specs.Shapes.{IsFaultyOf, IsOutsideOf, IsPlaceFault, IsSupportFault, IsProblemFault}
 use Rattle.cayley.specs.Stored.{point, unranked_of}
 use Rattle.cayley.specs.Valid.{IsWithinProblem, IsWithinCorners, AreDistinct, HasProblemShape, IsValidProblem, support_at, file_count_at}
-use Rattle.cayley.proofs.Lists.Each.{each_all, map_at, map_map, map_same, read_take, read_drop, read_past, same_read}
+use Rattle.int_vectors.proofs.Each.{each_all, map_at, map_map, map_same, read_take, read_drop, read_past, same_read}
 use Rattle.cayley.proofs.Refusals.Repeats.{repeat_from}
 use Rattle.cayley.proofs.Refusals.Stable.{problem_stable, corners_stable}
 use Rattle.cayley.proofs.Lists.Supports.{each_support_at, each_support_from, each_support_long}

@@ -9,7 +9,7 @@ use Rattle.cayley.specs.declared.points.Support.{Support}
 use Rattle.cayley.specs.Problems.{Point, EachSupport, HasCorners, IsStill}
 use Rattle.cayley.specs.Stored.{point, unranked_of}
 use Rattle.cayley.specs.Valid.{HasProblemShape}
-use Rattle.cayley.proofs.Lists.Each.{each_all, all_each, each_map, each_unmap, each_weaker, map_take, map_drop}
+use Rattle.int_vectors.proofs.Each.{each_all, all_each, each_map, each_unmap, each_weaker, map_take, map_drop}
 
 abbrev points_of : Support → List Point
 points_of s = map point s.points.items

@@ -6,7 +6,7 @@ use Rattle.std.proofs.lemmas.List.{length-map}
 use Rattle.int_vectors.specs.Vectors.{Each}
 use Rattle.cayley.specs.Shapes.{IsFirst, IsOutsideHeight}
 use Rattle.cayley.specs.Valid.{IsHeight}
-use Rattle.cayley.proofs.Lists.Each.{each_all, all_each, each_map, each_unmap, map_at, same_read}
+use Rattle.int_vectors.proofs.Each.{each_all, all_each, each_map, each_unmap, map_at, same_read}
 use Rattle.cayley.proofs.Refusals.FileFaults.{more_sound}
 use Rattle.cayley.proofs.Refusals.Stable.{le_stable}
 

@@ -12,7 +12,7 @@ use Rattle.cayley.specs.Problems.{Point, origin, point_at}
 use Rattle.cayley.specs.Shapes.{IsRepeat, IsOutside, IsFaulty, IsOutsideOf, IsFaultyOf, IsFirstCorner, IsSupportFault, file_point_at}
 use Rattle.cayley.specs.Stored.{held}
 use Rattle.cayley.specs.Valid.{IsHeight, IsWithinFile, IsWithinProblem, IsWithinCorners}
-use Rattle.cayley.proofs.Lists.Each.{all_each, map_at, map_map, read_take, read_drop, same_read}
+use Rattle.int_vectors.proofs.Each.{all_each, map_at, map_map, read_take, read_drop, same_read}
 
 module _ (f : ℕ) (s : List Point) (long : f ≤ length s) (rest : Each (take f s) (λ (x : Point). x.speed ≡ pos 0)) where
   abbrev pub files : List FilePoint

@@ -5,7 +5,6 @@ use Rattle.std.proofs.Math.IntN.{◌*ℤ◌}
 use native.Mathlib.Decide.{ℕ_discrete}
 use Rattle.cayley.proofs.Order.Proportion.{either_in_proportion, zero_in_proportion}
 use Rattle.cayley.proofs.OneCell.CellNormals.{a_normal}
-use Rattle.cayley.proofs.Order.Soon.{each_pair-map}
 use Rattle.cayley.proofs.Searching.Listing.{Has, Sorted, Listed, listed, all_cells, has-cell, compare_cells, less_trans}
 use Rattle.cayley.proofs.Order.Times.{Same, same_sym}
 use Rattle.cayley.proofs.Order.Lined.{further_cases, dec_zero, dec_positive, after_same, ahead_same, begins_earlier}
@@ -19,6 +18,7 @@ use Rattle.cayley.specs.Cells.{Cell, IsOf, IsIndependent, IsFurther, IsLess}
 use Rattle.cayley.specs.Mixed.{IsAlive}
 use Rattle.cayley.specs.Lives.{BeginsAt}
 use Rattle.cayley.specs.Parents.{ShareOne, DifferInOne, Precedes, IsParent}
+use Rattle.cayley.proofs.Lists.Pairs.{pairs_map}
 
 -- ---- cells
 pub less_irrefl : (x : Cell) → ¬ (IsLess x x)
@@ -101,9 +101,9 @@ Meets p sigma tau t v = IsNormal p sigma t v × IsNormal p tau t v × NoneBelow 
 meets_two : (p : Problem) (sigma tau : Cell) → IsProblem p → IsOf p sigma → IsIndependent p sigma → (t : Time) (w v : Normal) → IsNormal p sigma t v → Meets p sigma tau t w → Meets p sigma tau t v
 meets_two p sigma tau well of ind t w v iv h = (
   iv,
-  (iv.0, each_pair-map p.supports tau _ _ (λ s a b z. zero_in_proportion _ (gap t v (point_at s a) (point_at s b)) v.over w.over (λ i. let k = w.positive in omega (arith, ints, i, k)) (two (point_at s a) (point_at s b)) z) h.1.1),
-  each_pair-map p.supports sigma _ _ (λ s a b k c f. either_in_proportion _ (gap t v (point_at s a) (point_at s c)) v.over w.over v.positive w.positive (two (point_at s a) (point_at s c)) (k c f)) h.2,
-  each_pair-map p.supports tau _ _ (λ s a b k c f. either_in_proportion _ (gap t v (point_at s a) (point_at s c)) v.over w.over v.positive w.positive (two (point_at s a) (point_at s c)) (k c f)) h.3,
+  (iv.0, pairs_map p.supports tau _ _ (λ s a b z. zero_in_proportion _ (gap t v (point_at s a) (point_at s b)) v.over w.over (λ i. let k = w.positive in omega (arith, ints, i, k)) (two (point_at s a) (point_at s b)) z) h.1.1),
+  pairs_map p.supports sigma _ _ (λ s a b k c f. either_in_proportion _ (gap t v (point_at s a) (point_at s c)) v.over w.over v.positive w.positive (two (point_at s a) (point_at s c)) (k c f)) h.2,
+  pairs_map p.supports tau _ _ (λ s a b k c f. either_in_proportion _ (gap t v (point_at s a) (point_at s c)) v.over w.over v.positive w.positive (two (point_at s a) (point_at s c)) (k c f)) h.3,
 )
   where
     two : (a c : Point) (e : ℕ) → v.over *ℤ at (gap t w a c) e ≡ w.over *ℤ at (gap t v a c) e
@@ -141,13 +141,13 @@ precedes_same p sigma tau t u s h = (
     v = h.3.0
 
     normal : (cell : Cell) → IsNormal p cell t v → IsNormal p cell u v
-    normal cell n = (n.0, each_pair-map p.supports cell _ _ (λ s a b z. zero_in_proportion _ (gap u v (point_at s a) (point_at s b)) u.over t.over (λ i. let k = t.positive in omega (arith, ints, i, k)) (gap_same t u same v (point_at s a) (point_at s b)) z) n.1)
+    normal cell n = (n.0, pairs_map p.supports cell _ _ (λ s a b z. zero_in_proportion _ (gap u v (point_at s a) (point_at s b)) u.over t.over (λ i. let k = t.positive in omega (arith, ints, i, k)) (gap_same t u same v (point_at s a) (point_at s b)) z) n.1)
       where
         same : Same t u
         same = s
 
     none : (cell : Cell) → NoneBelow p cell t v → NoneBelow p cell u v
-    none cell n = each_pair-map p.supports cell _ _ (λ k a b m c f. either_in_proportion _ (gap u v (point_at k a) (point_at k c)) u.over t.over u.positive t.positive (gap_same t u s v (point_at k a) (point_at k c)) (m c f)) n
+    none cell n = pairs_map p.supports cell _ _ (λ k a b m c f. either_in_proportion _ (gap u v (point_at k a) (point_at k c)) u.over t.over u.positive t.positive (gap_same t u s v (point_at k a) (point_at k c)) (m c f)) n
 
 -- ---- parents
 pub one_parent : (p : Problem) (sigma rho tau : Cell) → IsProblem p → IsParent p sigma tau → IsParent p rho tau → sigma ≡ rho

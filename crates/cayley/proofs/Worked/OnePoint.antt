@@ -4,7 +4,7 @@ use Rattle.std.proofs.lemmas.Int.{ints}
 use Rattle.std.proofs.Math.IntN.{ℤ, pos, negsuc, ◌+ℤ◌, ◌*ℤ◌, neg_ℤ, *ℤ_comm}
 use Rattle.wide_int.proofs.Order.{mul_cancel}
 use Rattle.int_vectors.specs.Vectors.{IsZero, at, dot, scale, entries_at}
-use Rattle.int_vectors.proofs.Entries.{at-scale, at-add, zero_from}
+use Rattle.int_vectors.proofs.Entries.{at-scale, at-add, zero_from, at-zero}
 use Rattle.cayley.specs.Times.{Time, IsSameTime}
 use Rattle.cayley.specs.Problems.{Point, Problem, IsProblem}
 use Rattle.cayley.specs.Problems.Version.{version1}
@@ -22,9 +22,8 @@ use Rattle.cayley.specs.Strangers.{IsStranger}
 use Rattle.cayley.specs.Dependencies.{Numbers, total, IsFurtherAt, IsPositiveDependency}
 use Rattle.cayley.specs.Ties.{IsLevelAt, IsTieFree}
 use Rattle.cayley.specs.Flips.{IsOnlyLevel, IsLeastPredecessor, OneLevel}
-use Rattle.cayley.proofs.Algebra.RowNormals.{at-zero}
 use Rattle.cayley.proofs.OneCell.CellLines.{base_of, height-at}
-use Rattle.cayley.proofs.Flipping.Neighbours.{potential, gap-potential}
+use Rattle.cayley.proofs.OneCell.Neighbours.{potential, gap-potential}
 use Rattle.cayley.proofs.Order.Times.{same_before, before_same, never_before}
 use Rattle.cayley.proofs.Order.Lined.{Lined, early_from, early_nowhere}
 use Rattle.cayley.proofs.Life.Decisions.{lined_cell}

@@ -30,8 +30,8 @@ use Rattle.cayley.proofs.Life.LifeLaws.{parent_law, tie_free_law}
 use Rattle.cayley.proofs.OneCell.MovingWalls.{wall_level}
 use Rattle.cayley.proofs.OneCell.MovingNormals.{wall}
 use Rattle.cayley.proofs.Order.Lines.{Line, zero_of}
-use Rattle.cayley.proofs.Life.Crossings.{only_zero}
 use Rattle.cayley.proofs.Order.Times.{same_before, before_same, never_before}
+use Rattle.cayley.proofs.Order.Zeros.{only_zero}
 
 -- ---- the file and its path
 abbrev file_point : ℤ → ℤ → ℤ → FilePoint

@@ -5,7 +5,7 @@ use Rattle.std.proofs.Math.IntN.{ℤ, pos, negsuc, ◌+ℤ◌, ◌-ℤ◌, ◌*�
 use Rattle.wide_int.proofs.Ring.{as_D, Ds, same_D}
 use Rattle.wide_int.proofs.Order.{zero_product}
 use Rattle.int_vectors.specs.Vectors.{IsZero, at}
-use Rattle.int_vectors.proofs.Entries.{at-scale, at-add}
+use Rattle.int_vectors.proofs.Entries.{at-scale, at-add, at-zero}
 use Rattle.cayley.specs.Times.{Time, time_zero}
 use Rattle.cayley.specs.Problems.{Point, Problem, IsProblem, point_at, file_points}
 use Rattle.cayley.specs.Problems.Version.{version1}
@@ -16,7 +16,6 @@ use Rattle.cayley.specs.Normals.{Normal, IsNormal}
 use Rattle.cayley.specs.Mixed.{IsMixedCell}
 use Rattle.cayley.specs.Dependencies.{pair_at, nth_support}
 use Rattle.cayley.specs.Ties.{IsLevelAt, IsTie, IsTieFree}
-use Rattle.cayley.proofs.Algebra.RowNormals.{at-zero}
 use Rattle.cayley.proofs.Order.Lines.{Line, line_at}
 use Rattle.cayley.proofs.Order.Spans.{two_zeros}
 use Rattle.cayley.proofs.OneCell.MovingNormals.{Moving, IsFrame, wall, lined_frame}

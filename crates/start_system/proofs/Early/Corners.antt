@@ -13,14 +13,14 @@ use Rattle.cayley.specs.Mixed.{IsAlive}
 use Rattle.cayley.specs.Lives.{AliveEarly}
 use Rattle.wide_int.proofs.Ring.{as_D, Ds, same_D, mul_neg_ℤ}
 use Rattle.wide_int.proofs.Order.{mul_pos_ℤ}
-use Rattle.int_vectors.proofs.Entries.{at-scale, zero_from}
-use Rattle.cayley.proofs.Algebra.RowNormals.{at-zero}
+use Rattle.int_vectors.proofs.Entries.{at-scale, zero_from, at-zero}
 use Rattle.cayley.proofs.Order.Lexicographic.{minus_one, positive-scale}
 use Rattle.cayley.proofs.Order.Lines.{NotNegative}
 use Rattle.cayley.proofs.OneCell.CellLines.{base_of, height-at}
-use Rattle.cayley.proofs.Flipping.Neighbours.{potential, gap-potential}
-use Rattle.cayley.proofs.Life.Targets.{pair_both, positive_first}
+use Rattle.cayley.proofs.OneCell.Neighbours.{potential, gap-potential}
+use Rattle.cayley.proofs.Life.Targets.{positive_first}
 use Rattle.cayley.proofs.OneCell.OneDependency.{minus-at}
+use Rattle.cayley.proofs.Lists.Pairs.{pairs_both}
 use Rattle.start_system.proofs.Path.Hull.{dot_corner}
 use Rattle.start_system.proofs.Path.Shape.{Shape, Shapes, EachFrom, from_both, from_shapes}
 use Rattle.start_system.proofs.Path.Forms.{Longs, HasForm}
@@ -250,8 +250,8 @@ corners_start n p cell t w ls ld alive corners =
     let O : List Point → ℕ → ℕ → Type 0 = λ s a b. (1 ≤ a) × (a < b) × (b ≤ length s) in
     let ZL : List Point → ℕ → ℕ → Type 0 = λ s a b. IsZero (gap t v (point_at s a) (point_at s b)) × NoneBelowAt t v s a in
     let R : List Point → ℕ → ℕ → Type 0 = λ s a b. (a < b) × (b ≤ length s) × IsZero (gap t v (point_at s a) (point_at s b)) × NoneBelowAt t v s a in
-    let zl = pair_both p.supports cell Z L ZL (λ s a b z y. (z, y)) is.1 low in
-    let r = pair_both p.supports cell O ZL R (λ s a b o x. (o.1, o.2, x.0, x.1)) alive.0 zl in
+    let zl = pairs_both p.supports cell Z L ZL (λ s a b z y. (z, y)) is.1 low in
+    let r = pairs_both p.supports cell O ZL R (λ s a b o x. (o.1, o.2, x.0, x.1)) alive.0 zl in
     let all = from_shapes n 0 p.supports cell R (λ i s a b. R s a b) (λ i s a b h x. x) w r in
     only_start_pairs n p.supports cell t v w ls (is.0 ∙ ld) (from_both 0 p.supports cell (λ i s a b. (h : Shape n i s) → h.f < a) (λ i s a b. R s a b) (CornerPair n t v) (λ i s a b c x. (c, x.0, x.1, x.2, x.3)) corners all)
 

@@ -14,9 +14,10 @@ use Rattle.cayley.specs.Lives.{AliveEarly}
 use Rattle.wide_int.proofs.Ring.{as_D, Ds, same_D, D-pos, one_mul_ℤ, neg_mul_ℤ}
 use Rattle.wide_int.proofs.Order.{sign_cases, mul_pos_neg_ℤ}
 use Rattle.int_vectors.proofs.Entries.{at-scale, at-add}
-use Rattle.cayley.proofs.Flipping.Neighbours.{gap-potential, level_self}
+use Rattle.cayley.proofs.OneCell.Neighbours.{gap-potential, level_self}
 use Rattle.cayley.proofs.Order.Lines.{NotNegative}
-use Rattle.cayley.proofs.Life.Targets.{pair_both, positive_first, potential-first}
+use Rattle.cayley.proofs.Life.Targets.{positive_first, potential-first}
+use Rattle.cayley.proofs.Lists.Pairs.{pairs_both}
 use Rattle.start_system.proofs.Path.Shape.{InHull, Shape, Shapes, EachFrom, corner_places, each_corner, weigh_not_negative, first_not_negative, grows, corner_speed}
 
 -- where no corner is below a file point, the time has a lower bound
@@ -132,7 +133,7 @@ early_from n i (s ∷ supports) (x ∷ cell) w of u alive = (
 )
 
 pub alive_none_below : (p : Problem) (cell : Cell) (t : Time) (v : Normal) → IsNormal p cell t v → AllAbove p cell t v → EachPair p.supports cell (λ s a b. NoneBelowAt t v s a)
-alive_none_below p cell t v is above = pair_both p.supports cell _ _ _ (λ s a b z k. alive_not_below t v s a b z k) is.1 above
+alive_none_below p cell t v is above = pairs_both p.supports cell _ _ _ (λ s a b z k. alive_not_below t v s a b z k) is.1 above
 
 -- a time before a time
 pub earlier_time : (u : Time) → (x : Time) × IsBefore x u

@@ -15,7 +15,7 @@ use Rattle.wide_int.proofs.Order.{zero_product}
 use Rattle.int_vectors.proofs.Entries.{zero_from}
 use Rattle.cayley.proofs.Algebra.ScaledInverse.{dot-zero}
 use Rattle.cayley.proofs.Order.Lines.{NotNegative}
-use Rattle.cayley.proofs.Flipping.Neighbours.{potential, gap-potential, dot-sub}
+use Rattle.cayley.proofs.OneCell.Neighbours.{potential, gap-potential, dot-sub}
 use Rattle.cayley.proofs.Life.Targets.{positive_first, potential-first}
 use Rattle.start_system.proofs.Path.Hull.{dot_corner}
 use Rattle.start_system.proofs.Path.Shape.{Shape, Shapes, EachFrom, from_both, from_shapes, from_shapes_from, pairs_of_from}

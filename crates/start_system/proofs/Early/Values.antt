@@ -10,7 +10,7 @@ use Rattle.cayley.specs.Normals.{Normal, mark, gap}
 use Rattle.cayley.proofs.Order.Lexicographic.{positive-same, positive-scale, zero-scale, not_both, three}
 use Rattle.cayley.proofs.Order.Lines.{NotNegative, positive_mix}
 use Rattle.cayley.proofs.OneCell.CellLines.{base_of}
-use Rattle.cayley.proofs.Flipping.Neighbours.{gap-potential, level_back}
+use Rattle.cayley.proofs.OneCell.Neighbours.{gap-potential, level_back}
 use Rattle.cayley.proofs.Life.Targets.{mark-nothing}
 use Rattle.cayley.proofs.OneCell.OneDependency.{minus-at}
 

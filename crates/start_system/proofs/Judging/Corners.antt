@@ -8,7 +8,7 @@ use Rattle.cayley.specs.Problems.{Point, point_at, origin, with_rank}
 use Rattle.cayley.specs.Files.{FilePoint}
 use Rattle.cayley.specs.Stored.{held}
 use Rattle.cayley.specs.Paths.{corner, corners, least_coordinates, later_corners, direction_corners, simplex_edge}
-use Rattle.cayley.proofs.Lists.Each.{read_drop}
+use Rattle.int_vectors.proofs.Each.{read_drop}
 use Rattle.start_system.specs.Corners.{IsFirstOf, IsDirectionOf, HasPathCorners}
 use Rattle.start_system.proofs.Path.Positions.{from_zero, point_suc}
 use Rattle.start_system.proofs.Path.Supports.{direction_from_zero, length-directions}

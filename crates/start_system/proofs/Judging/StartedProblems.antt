@@ -8,7 +8,7 @@ use Rattle.cayley.specs.Files.{FilePoint, resting}
 use Rattle.cayley.specs.Stored.{held}
 use Rattle.cayley.specs.Paths.{corner, corners, least_coordinates, later_corners, direction_corners, path_supports, simplex_edge}
 use Rattle.cayley.specs.Valid.{IsValidProblem, support_at, file_count_at}
-use Rattle.cayley.proofs.Lists.Each.{map_map, map_drop, same_read}
+use Rattle.int_vectors.proofs.Each.{map_map, map_drop, same_read}
 use Rattle.cayley.proofs.Lists.Supports.{each_support_at, each_support_from}
 use Rattle.start_system.specs.Corners.{HasPathCorners}
 use Rattle.start_system.specs.Started.{IsStarted}

@@ -7,7 +7,7 @@ use Rattle.cayley.specs.Problems.{Point, Problem, HasCorners, with_rank, origin,
 use Rattle.cayley.specs.Files.{FilePoint}
 use Rattle.cayley.specs.Stored.{held}
 use Rattle.cayley.specs.Valid.{IsCoordinate, IsValidProblem, IsWithinProblem, support_at, file_count_at}
-use Rattle.cayley.proofs.Lists.Each.{all_each, each_map, each_both, each_weaker, map_at, read_take, same_read}
+use Rattle.int_vectors.proofs.Each.{all_each, each_map, each_both, each_weaker, map_at, read_take, same_read}
 use Rattle.cayley.proofs.Lists.Supports.{each_support_long, each_support_at}
 use Rattle.start_system.specs.Corners.{ArePoints, points_at}
 

@@ -9,7 +9,7 @@ use Rattle.int_vectors.proofs.Entries.{at-add, at_own, at_other}
 use Rattle.int_vectors.proofs.Differences.{minus_one}
 use Rattle.cayley.specs.Paths.{sum_of}
 use Rattle.cayley.specs.Valid.{IsCoordinate}
-use Rattle.cayley.proofs.Lists.Each.{all_each}
+use Rattle.int_vectors.proofs.Each.{all_each}
 
 -- ---- one entry more
 pub take_next : {A : Type 0} (xs : List A) (k : ℕ) (d : A) → k < length xs → take (k + 1) xs ≡ take k xs ++ (get_or xs k d ∷ [])

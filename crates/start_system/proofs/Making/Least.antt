@@ -11,7 +11,7 @@ use Rattle.cayley.specs.declared.points.FilePoint.{FilePoint as StoredFilePoint}
 use Rattle.cayley.specs.Stored.{file_point}
 use Rattle.cayley.specs.Paths.{lower, least_coordinates, sum_of, simplex_edge}
 use Rattle.cayley.specs.Valid.{IsCoordinate}
-use Rattle.cayley.proofs.Lists.Each.{each_weaker, all_each, map_at}
+use Rattle.int_vectors.proofs.Each.{each_weaker, all_each, map_at}
 use Rattle.start_system.specs.Corners.{ArePoints}
 use Rattle.start_system.proofs.Path.Reach.{Long, length-least}
 use Rattle.start_system.proofs.Making.Entries.{take_next}

@@ -7,7 +7,7 @@ use Rattle.int_vectors.proofs.Differences.{minus_one}
 use Rattle.cayley.specs.Files.{FilePoint}
 use Rattle.cayley.specs.Paths.{corners, least_coordinates, sum_of, later_corners, direction_corners, simplex_edge}
 use Rattle.cayley.specs.Valid.{IsCoordinate, IsCornerCoordinate, IsStart, IsWithinCorners}
-use Rattle.cayley.proofs.Lists.Each.{each_weaker}
+use Rattle.int_vectors.proofs.Each.{each_weaker}
 use Rattle.cayley.proofs.Lists.Supports.{wider}
 use Rattle.start_system.specs.Corners.{ArePoints}
 use Rattle.start_system.proofs.Path.Reach.{reach_positive}

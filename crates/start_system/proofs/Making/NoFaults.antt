@@ -11,7 +11,7 @@ use Rattle.cayley.specs.Files.{File}
 use Rattle.cayley.specs.Paths.{path}
 use Rattle.cayley.specs.Shapes.{IsFaultyOf, IsOutsideOf, IsRepeat, IsProblemFault}
 use Rattle.cayley.specs.Valid.{AreDistinct, IsWithinProblem, IsWithinCorners, IsValidFile, IsValidProblem, support_at, file_count_at}
-use Rattle.cayley.proofs.Lists.Each.{all_each, read_take, read_drop, read_past}
+use Rattle.int_vectors.proofs.Each.{all_each, read_take, read_drop, read_past}
 use Rattle.cayley.proofs.Lists.Supports.{each_support_at}
 use Rattle.start_system.proofs.Started.SearchLaws.{path_law}
 use Rattle.start_system.proofs.Making.ValidPaths.{path_valid}

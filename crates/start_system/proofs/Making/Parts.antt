@@ -9,7 +9,7 @@ use Rattle.cayley.specs.declared.points.FilePoint.{FilePoint as StoredFilePoint}
 use Rattle.cayley.specs.Stored.{file_point}
 use Rattle.cayley.specs.Paths.{corners, path_supports, starts_of}
 use Rattle.cayley.specs.Valid.{IsCoordinate, IsValidFile, IsWithinFile}
-use Rattle.cayley.proofs.Lists.Each.{all_each, each_unmap, each_weaker, map_at, map_map, map_same}
+use Rattle.int_vectors.proofs.Each.{all_each, each_unmap, each_weaker, map_at, map_map, map_same}
 use Rattle.start_system.specs.Corners.{ArePoints, ArePathParts}
 use Rattle.start_system.proofs.Path.Supports.{AreHeights}
 use Rattle.start_system.proofs.Started.Heights.{valid_lift}

@@ -9,7 +9,7 @@ use Rattle.cayley.specs.Stored.{point, problem_of}
 use Rattle.cayley.specs.Files.{FilePoint, File, resting}
 use Rattle.cayley.specs.Paths.{corners, path_supports, path, starts_of}
 use Rattle.cayley.specs.Valid.{IsStart, AreDistinct, IsWithinFile, IsWithinProblem, IsWithinCorners, IsValidFile, IsValidProblem}
-use Rattle.cayley.proofs.Lists.Each.{map_map, map_take, map_drop, each_map, each_both}
+use Rattle.int_vectors.proofs.Each.{map_map, map_take, map_drop, each_map, each_both}
 use Rattle.start_system.specs.Corners.{ArePoints}
 use Rattle.start_system.proofs.Path.Positions.{from_zero}
 use Rattle.start_system.proofs.Path.Forms.{Longs, path_form, form_well}

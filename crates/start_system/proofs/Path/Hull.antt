@@ -10,7 +10,7 @@ use Rattle.cayley.specs.Problems.{Point, point_at}
 use Rattle.cayley.specs.Paths.{sum_of}
 use Rattle.cayley.proofs.Algebra.Kernel.{dot_comm, places, weigh_map, weigh-at, length-places}
 use Rattle.cayley.proofs.Algebra.ScaledInverse.{dot-add}
-use Rattle.cayley.proofs.Flipping.Neighbours.{dot-sub}
+use Rattle.cayley.proofs.OneCell.Neighbours.{dot-sub}
 use Rattle.cayley.proofs.OneCell.CellNormals.{same_long}
 use Rattle.start_system.proofs.Path.Shape.{InHull, each_places}
 use Rattle.start_system.proofs.Path.Reach.{Inside}

@@ -9,7 +9,7 @@ use Rattle.cayley.specs.Cells.{Cell, EachPair}
 use Rattle.wide_int.proofs.Order.{mul_le_ℤ}
 use Rattle.wide_int.proofs.Ring.{mul_neg_ℤ}
 use Rattle.cayley.proofs.Algebra.Kernel.{places}
-use Rattle.cayley.proofs.Lists.Each.{each_map}
+use Rattle.int_vectors.proofs.Each.{each_map}
 use Rattle.cayley.proofs.Order.Lines.{NotNegative}
 
 -- the positions of the corners, where f file points come first

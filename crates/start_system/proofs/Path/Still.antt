@@ -5,7 +5,7 @@ use Rattle.std.proofs.Math.IntN.{pos}
 use Rattle.int_vectors.specs.Vectors.{Each}
 use Rattle.cayley.specs.Problems.{Point, Problem, EachSupport, IsStill, HasRanks, point_at, ranked_supports}
 use Rattle.cayley.specs.Valid.{IsStillProblem}
-use Rattle.cayley.proofs.Lists.Each.{read_drop}
+use Rattle.int_vectors.proofs.Each.{read_drop}
 use Rattle.cayley.proofs.Ranking.Unranked.{ranked_twice}
 use Rattle.start_system.proofs.Path.Positions.{from_zero, point_suc}
 use Rattle.start_system.proofs.Path.Shape.{Shapes, corner_speed}

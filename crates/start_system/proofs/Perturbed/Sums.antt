@@ -11,12 +11,12 @@ use Rattle.cayley.specs.Normals.{Normal, height, mark, gap, IsNormal}
 use Rattle.cayley.specs.Dependencies.{pair_at, nth_support}
 use Rattle.wide_int.proofs.Ring.{as_D, Ds, same_D}
 use Rattle.wide_int.proofs.Order.{zero_product}
-use Rattle.int_vectors.proofs.Entries.{at-scale, at-add}
+use Rattle.int_vectors.proofs.Entries.{at-scale, at-add, at-zero}
 use Rattle.cayley.proofs.Algebra.ScaledInverse.{at-comb}
-use Rattle.cayley.proofs.Algebra.RowNormals.{sum_is_gap, at-zero}
+use Rattle.cayley.proofs.Algebra.RowNormals.{sum_is_gap}
 use Rattle.cayley.proofs.OneCell.CellNormals.{rises, length-rises, normal_from, rows_independent, long_rows}
 use Rattle.cayley.proofs.OneCell.CellLines.{a_dependency, ADependency, base_of, height-at}
-use Rattle.cayley.proofs.Flipping.Neighbours.{dot-sub}
+use Rattle.cayley.proofs.OneCell.Neighbours.{dot-sub}
 use Rattle.cayley.specs.Rows.{edges}
 use Rattle.cayley.proofs.OneCell.OneDependency.{minus-at}
 use Rattle.start_system.proofs.Perturbed.Ranks.{AtPlace}

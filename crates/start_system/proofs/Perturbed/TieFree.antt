@@ -15,7 +15,8 @@ use Rattle.wide_int.proofs.Order.{zero_product}
 use Rattle.int_vectors.proofs.Entries.{at-scale, at-add, zero_from, not_zero}
 use Rattle.cayley.proofs.Order.Lines.{later}
 use Rattle.cayley.proofs.Order.Times.{same_sym}
-use Rattle.cayley.proofs.Flipping.Places.{pairs_long, further_bound, place_of}
+use Rattle.cayley.proofs.Flipping.Places.{further_bound, place_of}
+use Rattle.cayley.proofs.Lists.Pairs.{pairs_long}
 use Rattle.start_system.proofs.Path.Shape.{Shapes}
 use Rattle.start_system.proofs.Path.Forms.{HasForm, form_well, longs_count}
 use Rattle.start_system.proofs.Perturbed.Ranks.{InAt, AtPlace, ranks_apart, rank_start}

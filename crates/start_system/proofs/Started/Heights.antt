@@ -8,7 +8,7 @@ use Rattle.int_vectors.specs.Vectors.{Each}
 use Rattle.cayley.specs.Files.{File}
 use Rattle.cayley.specs.Paths.{default_start, default_starts_from, default_starts, starts_of}
 use Rattle.cayley.specs.Valid.{IsStart, IsValidFile}
-use Rattle.cayley.proofs.Lists.Each.{each_both, each_weaker}
+use Rattle.int_vectors.proofs.Each.{each_both, each_weaker}
 use Rattle.start_system.proofs.Path.Numbering.{unequal}
 use Rattle.start_system.proofs.Path.Supports.{AreHeights}
 use Rattle.start_system.proofs.Path.Forms.{IsLift}

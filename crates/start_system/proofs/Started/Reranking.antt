@@ -6,7 +6,7 @@ use Rattle.cayley.specs.Problems.Version.{version1, version2}
 use Rattle.cayley.specs.Files.{FilePoint, File, resting, plain_problem}
 use Rattle.cayley.specs.Stored.{held}
 use Rattle.cayley.specs.Paths.{corners, path_supports, path, starts_of}
-use Rattle.cayley.proofs.Lists.Each.{map_map, map_same, map_take}
+use Rattle.int_vectors.proofs.Each.{map_map, map_same, map_take}
 use Rattle.cayley.proofs.Algebra.Dependence.{length-map}
 
 abbrev bare : List Point → List Point

@@ -7,7 +7,7 @@ use Rattle.cayley.specs.Files.{FilePoint, File}
 use Rattle.cayley.specs.Stored.{held}
 use Rattle.cayley.specs.Paths.{path, starts_of}
 use Rattle.cayley.specs.Valid.{HasProblemShape}
-use Rattle.cayley.proofs.Lists.Each.{each_weaker}
+use Rattle.int_vectors.proofs.Each.{each_weaker}
 use Rattle.cayley.proofs.Algebra.Dependence.{length-map}
 use Rattle.start_system.specs.Started.{AreStarts, file_with, IsStarted, IsSearched}
 use Rattle.start_system.specs.Laws.{StartedLaw, PathLaw}

@@ -3,14 +3,13 @@ use Rattle.std.proofs.Common.{◌≡◌, ◌≢◌, ℕ, zero, suc, ◌≤◌, L
 use Rattle.std.proofs.lemmas.Int.{ints}
 use Rattle.std.proofs.Math.IntN.{ℤ, pos, ◌+ℤ◌, ◌*ℤ◌}
 use Rattle.int_vectors.specs.Vectors.{Each, IsZero, at}
-use Rattle.int_vectors.proofs.Entries.{at-scale, at-add}
+use Rattle.int_vectors.proofs.Entries.{at-scale, at-add, at-zero}
 use Rattle.cayley.specs.Times.{Time}
 use Rattle.cayley.specs.Problems.{Point, Problem, IsProblem, point_at}
 use Rattle.cayley.specs.Problems.Version.{version1}
 use Rattle.cayley.specs.Cells.{Cell, IsOf, IsIndependent, IsFurther}
 use Rattle.cayley.specs.Normals.{Normal, IsNormal, NoneBelow}
 use Rattle.cayley.specs.Ties.{IsLevelAt, IsUntied}
-use Rattle.cayley.proofs.Algebra.RowNormals.{at-zero}
 use Rattle.cayley.proofs.Order.Lines.{Line, line_at}
 use Rattle.cayley.proofs.Order.Spans.{two_zeros}
 use Rattle.cayley.proofs.Searching.Listing.{Has}

@@ -1,7 +1,7 @@
 use Rattle.std.proofs.Common.{ℕ, ◌<◌, ◌≤◌, ◌↔◌, rules}
 use Rattle.std.specs.Prelude.{IsTrue}
 use Rattle.std.specs.List.{All}
-use Rattle.cayley.proofs.Lists.Each.{each_all, all_each}
+use Rattle.int_vectors.proofs.Each.{each_all, all_each}
 use Rattle.cayley.proofs.cells.all_rise.Goals as goal
 
 pub returns : goal.returns

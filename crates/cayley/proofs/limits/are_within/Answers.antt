@@ -1,7 +1,7 @@
 use Rattle.std.proofs.Common.{◌≤◌, ◌↔◌, rules}
 use Rattle.std.specs.Prelude.{IsTrue, ℤ, unsigned_abs}
 use Rattle.std.specs.List.{All}
-use Rattle.cayley.proofs.Lists.Each.{each_all, all_each}
+use Rattle.int_vectors.proofs.Each.{each_all, all_each}
 use Rattle.cayley.proofs.limits.are_within.Goals as goal
 
 pub returns : goal.returns

@@ -3,7 +3,7 @@ use Rattle.std.specs.Prelude.{slice_index_or}
 use Rattle.std.proofs.lemmas.Bool.{cases_order}
 use Rattle.std.proofs.lemmas.List.{length-map}
 use Rattle.cayley.specs.declared.points.Support.{Support}
-use Rattle.cayley.proofs.Lists.Each.{all_each, same_read}
+use Rattle.int_vectors.proofs.Each.{all_each, same_read}
 use Rattle.cayley.proofs.Lists.Pairs.{each_pair_long, each_pair_at, each_pair_from}
 use Rattle.cayley.proofs.positions.has_positions.Goals as goal
 

@@ -7,7 +7,7 @@ use Rattle.cayley.specs.Valid.{IsWithinFile}
 use Rattle.cayley.proofs.Refusals.FileFaults.{coords_of, coords_here, within_not_outside, is_repeat, sound_more}
 use Rattle.cayley.proofs.Refusals.Repeats.{key_cmp, keeps_more}
 use Rattle.cayley.proofs.problem_shapes.check_file_points.Goals as goal
-use Rattle.cayley.proofs.Lists.Each.{not_false, no_both}
+use Rattle.int_vectors.proofs.Each.{not_false, no_both}
 
 pub returns-in-Ok-false : goal.returns-in-Ok-false
 returns-in-Ok-false c =

@@ -10,7 +10,7 @@ use Rattle.cayley.specs.Problems.{Point}
 use Rattle.cayley.specs.Shapes.{IsFaulty, IsOutside, IsFirstCorner, IsSupportFault}
 use Rattle.cayley.specs.Stored.{held, point}
 use Rattle.cayley.specs.Valid.{IsWithinCorners}
-use Rattle.cayley.proofs.Lists.Each.{each_all, each_map, map_map, map_take, map_drop}
+use Rattle.int_vectors.proofs.Each.{each_all, each_map, map_map, map_take, map_drop}
 use Rattle.cayley.proofs.Refusals.SupportFaults.{carried, corner_fault, no_fault}
 use Rattle.cayley.proofs.problem_shapes.check_support.Goals as goal
 

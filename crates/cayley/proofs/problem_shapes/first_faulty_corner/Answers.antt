@@ -5,7 +5,7 @@ use Rattle.std.proofs.lemmas.List.{length-map}
 use Rattle.cayley.specs.Problems.{origin}
 use Rattle.cayley.specs.Stored.{point}
 use Rattle.cayley.specs.Valid.{IsWithinCorners}
-use Rattle.cayley.proofs.Lists.Each.{each_all, map_at, same_read}
+use Rattle.int_vectors.proofs.Each.{each_all, map_at, same_read}
 use Rattle.cayley.proofs.problem_shapes.first_faulty_corner.Goals as goal
 
 pub loop-k-preserved : goal.loop-k-preserved

@@ -2,7 +2,7 @@ use Rattle.std.proofs.Common.{rules, ◌≡◌, ◌≢◌, ◌∙◌, ◌⊎◌,
 use Rattle.std.proofs.lemmas.Bool.{eq-eqb}
 use Rattle.std.proofs.lemmas.List.{length-map}
 use Rattle.cayley.specs.Stored.{point}
-use Rattle.cayley.proofs.Lists.Each.{no_both}
+use Rattle.int_vectors.proofs.Each.{no_both}
 use Rattle.cayley.proofs.Ranking.Numbering.{rank_there, rank_of_start}
 use Rattle.cayley.proofs.ranks.rank_at.Goals.{then-position-corner-2, else-position-corner-2}
 use Rattle.cayley.proofs.ranks.rank_at.Goals as goal

@@ -2,7 +2,7 @@ use Rattle.std.proofs.Common.{◌-◌, ◌∙◌, ap₂, arith}
 use Rattle.cayley.specs.Problems.{origin}
 use Rattle.cayley.specs.Rows.{edge_row}
 use Rattle.cayley.specs.Stored.{point}
-use Rattle.cayley.proofs.Lists.Each.{map_at}
+use Rattle.int_vectors.proofs.Each.{map_at}
 use Rattle.cayley.proofs.rows.pair_row.Goals as goal
 
 pub returns : goal.returns

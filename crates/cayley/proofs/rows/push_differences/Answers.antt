@@ -1,7 +1,7 @@
 use Rattle.std.proofs.Common.{rules, pos, get_or, FitsSigned, to_z-of_z, ◌-ℤ◌, arith}
 use Rattle.std.specs.Int.{w128}
 use Rattle.cayley.proofs.OneCell.EdgeRows.{small_fits, one_more}
-use Rattle.cayley.proofs.Lists.Each.{all_each}
+use Rattle.int_vectors.proofs.Each.{all_each}
 use Rattle.cayley.proofs.rows.push_differences.Goals as goal
 
 pub overflow_sub-x : goal.overflow_sub-x

@@ -4,7 +4,7 @@ use Rattle.cayley.specs.declared.points.Point.{Point as StoredPoint}
 use Rattle.cayley.specs.declared.points.Support.{Support}
 use Rattle.cayley.specs.Rows.{edge_rows_from}
 use Rattle.cayley.specs.Stored.{point}
-use Rattle.cayley.proofs.Lists.Each.{map_at}
+use Rattle.int_vectors.proofs.Each.{map_at}
 use Rattle.cayley.proofs.Lists.Pairs.{each_pair_long, each_pair_at}
 use Rattle.cayley.proofs.OneCell.EdgeRows.{length-edge_rows, next_row, more_rows}
 use Rattle.cayley.proofs.rows.rows_of.Goals as goal

@@ -1,6 +1,6 @@
 use Rattle.std.proofs.Common.{◌∙◌, length, arith, sym}
-use Rattle.cayley.proofs.Lists.Each.{map_map, no_both}
-use Rattle.cayley.proofs.OneCell.PlainProblems.{counts_of}
+use Rattle.int_vectors.proofs.Each.{map_map, no_both}
+use Rattle.cayley.proofs.Ranking.PlainProblems.{counts_of}
 use Rattle.cayley.proofs.Refusals.SecondHeights.{as_long, as_small}
 use Rattle.cayley.proofs.second_heights.check_second.Goals as goal
 

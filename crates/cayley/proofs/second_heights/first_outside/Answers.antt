@@ -1,7 +1,7 @@
 use Rattle.std.proofs.Common.{arith, subst}
 use Rattle.std.specs.Prelude.{pos}
 use Rattle.cayley.specs.Valid.{IsHeight}
-use Rattle.cayley.proofs.Lists.Each.{each_all, same_read}
+use Rattle.int_vectors.proofs.Each.{each_all, same_read}
 use Rattle.cayley.proofs.second_heights.first_outside.Goals as goal
 
 pub returns : goal.returns

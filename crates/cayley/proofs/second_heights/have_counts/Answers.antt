@@ -2,7 +2,7 @@ use Rattle.std.proofs.Common.{◌≡◌, ◌∙◌, ℕ, ◌+◌, ◌<◌, List,
 use Rattle.std.specs.Prelude.{slice_index_or}
 use Rattle.std.proofs.lemmas.Bool.{cases_lt}
 use Rattle.std.proofs.lemmas.List.{length-map}
-use Rattle.cayley.proofs.Lists.Each.{map_at}
+use Rattle.int_vectors.proofs.Each.{map_at}
 use Rattle.cayley.proofs.Refusals.SecondHeights.{same_lists}
 use Rattle.cayley.proofs.second_heights.have_counts.Goals as goal
 

@@ -1,8 +1,8 @@
 use Rattle.std.proofs.Common.{rules, arith, FitsSigned, to_z-of_z}
 use Rattle.std.specs.Prelude.{pos, slice_index_or}
 use Rattle.std.specs.Int.{w64}
-use Rattle.cayley.proofs.Lists.Each.{same_read}
-use Rattle.cayley.proofs.OneCell.MovedProblems.{next_points}
+use Rattle.int_vectors.proofs.Each.{same_read}
+use Rattle.cayley.proofs.Ranking.MovedProblems.{next_points}
 use Rattle.cayley.proofs.second_heights.moved_points.Goals as goal
 
 pub loop-k-preserved : goal.loop-k-preserved

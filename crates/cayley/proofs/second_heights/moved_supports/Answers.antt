@@ -5,7 +5,7 @@ use Rattle.cayley.specs.declared.points.Support.{Support}
 use Rattle.cayley.specs.Files.{moved_points}
 use Rattle.cayley.specs.Stored.{file_point, point}
 use Rattle.cayley.specs.Valid.{IsHeight}
-use Rattle.cayley.proofs.OneCell.MovedProblems.{next_counts, next_supports}
+use Rattle.cayley.proofs.Ranking.MovedProblems.{next_counts, next_supports}
 use Rattle.cayley.proofs.Refusals.SecondHeights.{as_long, as_counted}
 use Rattle.cayley.proofs.second_heights.moved_supports.Goals as goal
 

@@ -1,6 +1,6 @@
 use Rattle.std.proofs.Common.{◌∙◌, [], map, arith}
 use Rattle.std.proofs.lemmas.List.{length-map}
-use Rattle.cayley.proofs.Lists.Each.{map_at}
+use Rattle.int_vectors.proofs.Each.{map_at}
 use Rattle.cayley.proofs.Refusals.SecondHeights.{first_height, more_heights, all_heights}
 use Rattle.cayley.proofs.second_heights.outside.Goals as goal
 

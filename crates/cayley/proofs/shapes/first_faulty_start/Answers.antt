@@ -4,7 +4,7 @@ use Rattle.std.proofs.lemmas.Bool.{cases_lt}
 use Rattle.std.proofs.lemmas.List.{length-map}
 use Rattle.int_vectors.specs.Vectors.{Each}
 use Rattle.cayley.specs.Valid.{IsStart}
-use Rattle.cayley.proofs.Lists.Each.{each_all, map_at, same_read}
+use Rattle.int_vectors.proofs.Each.{each_all, map_at, same_read}
 use Rattle.cayley.proofs.shapes.first_faulty_start.Goals as goal
 
 pub loop-k-preserved : goal.loop-k-preserved

@@ -1,7 +1,7 @@
 use Rattle.std.proofs.Common.{rules, pos, ◌-ℤ◌, get_or, FitsSigned, to_z-of_z, arith, sym}
 use Rattle.std.specs.Int.{w128}
 use Rattle.cayley.proofs.OneCell.EdgeRows.{small_fits}
-use Rattle.cayley.proofs.Lists.Each.{all_each}
+use Rattle.int_vectors.proofs.Each.{all_each}
 use Rattle.cell_bound.proofs.Spreads.{spread_more}
 use Rattle.cell_bound.proofs.ranges.spread.Goals as goal
 

@@ -3,7 +3,7 @@ use Rattle.cayley.specs.Stored.{file_point}
 use Rattle.cayley.specs.Files.{plain_problem}
 use Rattle.cayley.specs.Problems.{point_at, unperturbed}
 use Rattle.cayley.specs.Resting.{rise}
-use Rattle.cayley.proofs.OneCell.Unperturbed.{same_unperturbed, same_of}
+use Rattle.cayley.proofs.Ranking.Unperturbed.{same_unperturbed, same_of}
 use Rattle.cell_certificate.specs.Sides.{FitsSupport, Shows}
 use Rattle.cell_certificate.specs.Sums.{RisesAt, UntiedAt}
 use Rattle.cell_certificate.proofs.Supports.{supports_count, support_is, near_is, pair_is, cell_count}

@@ -1,8 +1,9 @@
 use Rattle.std.proofs.Common.{◌≤◌, length, arith, ap}
 use Rattle.std.proofs.lemmas.Result.{err_from_is_err_and}
 use Rattle.cone_walls.specs.Workings.{FitsWalls}
-use Rattle.cone_walls.proofs.Pushing.{fault_by, pair_within, support_inside, support_not, support_more, more_supports, no_supports, last_support}
+use Rattle.cone_walls.proofs.Pushing.{pair_within, support_inside, support_not, support_more, more_supports, no_supports, last_support}
 use Rattle.cone_walls.proofs.lines.lines_within.Goals as goal
+use Rattle.inner_normal.proofs.Faults.{fault_other}
 
 pub push_lines-requires-clause-greatest : goal.push_lines-requires-clause-greatest
 push_lines-requires-clause-greatest c =
@@ -15,9 +16,7 @@ push_lines-requires-clause-pair c =
 pub returns-in_err-push_lines-clause-made : goal.returns-in_err-push_lines-clause-made
 returns-in_err-push_lines-clause-made c =
     let e = err_from_is_err_and c.from_residual-in_err-push_lines.result c.from_residual-in_err-push_lines.ensures.1 in
-    rw (e.1, e.2) (fault_by _ (FitsWalls c.args.problem.now c.args.cell.now c.args.normal.now)
-    (support_not c.args.normal.now c.args.problem.now c.args.cell.now c.pairs-pair-items.result.now c.pairs-pair-items.ensures.same c.requires.of c.loop-i.i c.loop-i-test.true c.loop-i.invariant.fits)
-    c.in_err-push_lines.field-0.0 c.in_err-push_lines.ensures.made)
+    rw (e.1, e.2) (fault_other _ (FitsWalls c.args.problem.now c.args.cell.now c.args.normal.now) c.in_err-push_lines.field-0.0 (λ n g. n ((support_not c.args.normal.now c.args.problem.now c.args.cell.now c.pairs-pair-items.result.now c.pairs-pair-items.ensures.same c.requires.of c.loop-i.i c.loop-i-test.true c.loop-i.invariant.fits) g)) c.in_err-push_lines.ensures.made)
 
 pub loop-i-preserved : goal.loop-i-preserved
 loop-i-preserved c =

@@ -3,7 +3,7 @@ use Rattle.std.specs.Global.{Vec}
 use Rattle.std.proofs.lemmas.List.{length-map}
 use Rattle.int_vectors.specs.Vectors.{Each}
 use Rattle.cayley.specs.Valid.{AreDistinct, IsCoordinate}
-use Rattle.cayley.proofs.Lists.Each.{each_unmap, each_weaker}
+use Rattle.int_vectors.proofs.Each.{each_unmap, each_weaker}
 use Rattle.family_gen.proofs.ValidLifts.{IsSupport}
 use Rattle.family_gen.proofs.CyclicSupports.{cyclic_are_supports, cyclic-count}
 use Rattle.family_gen.proofs.cycles.cyclic.Goals as goal

@@ -3,7 +3,7 @@ use Rattle.cayley.specs.Cells.{Cell}
 use Rattle.cayley.specs.Files.{plain_problem}
 use Rattle.cayley.specs.Problems.{unperturbed}
 use Rattle.cayley.specs.Stored.{file_point}
-use Rattle.cayley.proofs.OneCell.Unperturbed.{same_unperturbed, same_of}
+use Rattle.cayley.proofs.Ranking.Unperturbed.{same_unperturbed, same_of}
 use Rattle.cell_certificate.specs.Sides.{seen, FitsSupport}
 use Rattle.cell_certificate.proofs.Levels.{level_from}
 use Rattle.cell_certificate.proofs.PlainSums.{sums_fit, flat}

@@ -2,7 +2,7 @@ use Rattle.std.proofs.Common.{rules}
 use Rattle.std.specs.Prelude.{IsTrue}
 use Rattle.std.specs.List.{All}
 use Rattle.listing_text.specs.declared.listing.ListedCell.{ListedCell}
-use Rattle.cayley.proofs.Lists.Each.{each_all}
+use Rattle.int_vectors.proofs.Each.{each_all}
 use Rattle.cell_certificate.specs.Written.{IsListed}
 use Rattle.homotopy_rows.proofs.tests.are_listed.Goals as goal
 

@@ -2,7 +2,7 @@ use Rattle.std.proofs.Common.{◌≡◌, ◌∙◌, ◌^◌, pos, sym, ap, subst
 use Rattle.std.specs.Int.{w128}
 use Rattle.int_vectors.specs.Bounds.{SumBelow}
 use Rattle.int_vectors.specs.Vectors.{sub}
-use Rattle.cayley.proofs.Lists.Each.{all_each, same_read}
+use Rattle.int_vectors.proofs.Each.{all_each, same_read}
 use Rattle.inner_normal.specs.Coefficients.{products, coefficients_from}
 use Rattle.inner_normal.proofs.Bounded.{less_start}
 use Rattle.inner_normal.proofs.CoefficientSteps.{fits_to, fits_from, fits_more, fits_not, items_more, all_more, items_end, fits_end, all_end}

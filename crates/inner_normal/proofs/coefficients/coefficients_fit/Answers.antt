@@ -2,7 +2,7 @@ use Rattle.std.proofs.Common.{rules, ◌≡◌, ◌∙◌, sym, ap, length, fals
 use Rattle.std.specs.Int.{w128}
 use Rattle.std.specs.Prelude.{IsTrue}
 use Rattle.int_vectors.specs.Vectors.{sub}
-use Rattle.cayley.proofs.Lists.Each.{all_each, same_read}
+use Rattle.int_vectors.proofs.Each.{all_each, same_read}
 use Rattle.inner_normal.proofs.Bounded.{within_sub}
 use Rattle.inner_normal.proofs.WithinBounds.{all_within}
 use Rattle.inner_normal.proofs.CoefficientSteps.{fits_to, fits_from, fits_more, fits_not, fits_end}

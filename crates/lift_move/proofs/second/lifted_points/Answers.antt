@@ -1,7 +1,7 @@
-use Rattle.std.proofs.Common.{rules, arith, FitsSigned, to_z-of_z, ◌∙◌, ap}
+use Rattle.std.proofs.Common.{rules, arith, FitsSigned, to_z-of_z, ap}
 use Rattle.std.specs.Prelude.{pos, slice_index_or}
 use Rattle.std.specs.Int.{w64}
-use Rattle.cayley.proofs.Lists.Each.{same_read}
+use Rattle.int_vectors.proofs.Each.{same_read}
 use Rattle.lift_move.proofs.Lifted.{next_lifted}
 use Rattle.lift_move.proofs.second.lifted_points.Goals as goal
 

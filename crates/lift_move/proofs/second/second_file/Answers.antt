@@ -1,10 +1,10 @@
-use Rattle.std.proofs.Common.{◌≡◌, ◌∙◌, map, sym, ap, subst}
+use Rattle.std.proofs.Common.{◌∙◌, map, sym, ap, subst}
 use Rattle.cayley.specs.Files.{plain_problem}
-use Rattle.cayley.specs.Stored.{file_point, file_of, version_of}
+use Rattle.cayley.specs.Stored.{file_point}
 use Rattle.cayley.specs.Valid.{IsValidFile}
-use Rattle.cayley.proofs.Lists.Each.{map_map}
-use Rattle.cayley.proofs.OneCell.MovedProblems.{second_counts}
-use Rattle.lift_move.specs.Segments.{lifted_supports, second_of}
+use Rattle.int_vectors.proofs.Each.{map_map}
+use Rattle.cayley.proofs.Ranking.MovedProblems.{second_counts}
+use Rattle.lift_move.specs.Segments.{lifted_supports}
 use Rattle.lift_move.proofs.Lifted.{second_valid, made_second, plain_end}
 use Rattle.lift_move.proofs.second.second_file.Goals as goal
 

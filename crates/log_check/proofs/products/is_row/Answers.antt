@@ -1,5 +1,5 @@
 use Rattle.std.proofs.Common.{◌≡◌, sym, ap, ◌∙◌, length, List, ℤ}
-use Rattle.cayley.proofs.Lists.Each.{all_each}
+use Rattle.int_vectors.proofs.Each.{all_each}
 use Rattle.log_check.proofs.products.is_row.Goals as goal
 
 pub is_entry-requires-clause-a_long : goal.is_entry-requires-clause-a_long

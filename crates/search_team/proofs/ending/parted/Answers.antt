@@ -1,5 +1,5 @@
 use Rattle.std.proofs.Common.{rules, ◌≡◌, ◌+◌, [], ◌++◌, ◌∷◌, map, min, reverse, ap, ◌∙◌}
-use Rattle.cayley.proofs.OneCell.MovedProblems.{map_push}
+use Rattle.cayley.proofs.Ranking.MovedProblems.{map_push}
 use Rattle.branch_pool.specs.Seats.{SeatData, IsSeatOf}
 use Rattle.branch_pool.proofs.Dealt.{all_more}
 use Rattle.branch_pool.proofs.Fresh.{all_pop}

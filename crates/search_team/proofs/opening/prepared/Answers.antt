@@ -2,7 +2,7 @@ use Rattle.std.proofs.Common.{arith, ◌≡◌, [], length, map, sym, ap, ◌∙
 use Rattle.std.specs.List.{range_with_len}
 use Rattle.std.proofs.lemmas.List.{map-id}
 use Rattle.std.proofs.lemmas.List.FromFn.{length-map-range_with_len}
-use Rattle.cayley.proofs.Lists.Each.{map_map}
+use Rattle.int_vectors.proofs.Each.{map_map}
 use Rattle.branch_pool.specs.Seats.{SeatData, IsSeatOf, all_taken, fresh_seat}
 use Rattle.searcher.specs.declared.branches.Branch.{Branch}
 use Rattle.search_team.specs.declared.jobs.Job.{Job}

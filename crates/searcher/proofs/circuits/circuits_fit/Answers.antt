@@ -1,5 +1,5 @@
 use Rattle.std.proofs.Common.{sym, subst}
-use Rattle.cayley.proofs.Lists.Each.{all_each}
+use Rattle.int_vectors.proofs.Each.{all_each}
 use Rattle.searcher.specs.LineCircuits.{NamesFurther}
 use Rattle.searcher.proofs.circuits.circuits_fit.Goals as goal
 

@@ -1,7 +1,7 @@
 use Rattle.std.proofs.Common.{rules, true≢false, ◌≤◌, ◌<◌, length, slice_index_or, arith, refl, sym, ap, subst}
 use Rattle.cayley.specs.Cells.{Cell}
-use Rattle.cayley.proofs.Flipping.Places.{pairs_long}
 use Rattle.cayley.proofs.OneCell.CellRows.{InRange}
+use Rattle.cayley.proofs.Lists.Pairs.{pairs_long}
 use Rattle.searcher.proofs.FileCells.{file_cell, below_files}
 use Rattle.searcher.proofs.FileTargets.{files_long}
 use Rattle.searcher.proofs.targets.has_file_points.Goals as goal

@@ -4,7 +4,7 @@ use Rattle.std.specs.Global.{Vec}
 use Rattle.cayley.specs.Files.{File, FilePoint}
 use Rattle.cayley.specs.Stored.{file_point, version_of}
 use Rattle.cayley.specs.Valid.{IsValidFile}
-use Rattle.cayley.proofs.Lists.Each.{map_map}
+use Rattle.int_vectors.proofs.Each.{map_map}
 use Rattle.support_text.specs.Words.{next_line}
 use Rattle.support_text.specs.ProblemText.{dim_line, supports, ending}
 use Rattle.support_text.specs.Stored.{support_view, starts_view}

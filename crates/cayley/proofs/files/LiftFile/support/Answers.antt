@@ -2,7 +2,7 @@ use Rattle.std.proofs.Common.{◌≡◌, ◌-◌, [], map, slice_index_or, ◌�
 use Rattle.std.proofs.lemmas.List.{length-map}
 use Rattle.cayley.specs.Files.{File}
 use Rattle.cayley.specs.Stored.{file_point}
-use Rattle.cayley.proofs.Lists.Each.{map_at, map_map}
+use Rattle.int_vectors.proofs.Each.{map_at, map_map}
 use Rattle.cayley.proofs.files.LiftFile.support.Goals as goal
 
 pub returns-clause-value : goal.returns-clause-value

@@ -1,7 +1,7 @@
 use Rattle.std.proofs.Common.{map, ◌∙◌, ap, sym}
 use Rattle.cayley.specs.Files.{File}
 use Rattle.cayley.specs.Stored.{file_point}
-use Rattle.cayley.proofs.Lists.Each.{map_map}
+use Rattle.int_vectors.proofs.Each.{map_map}
 use Rattle.cayley.proofs.files.LiftFile.supports.Goals as goal
 
 pub returns-clause-value : goal.returns-clause-value

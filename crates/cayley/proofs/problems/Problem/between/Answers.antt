@@ -2,9 +2,9 @@ use Rattle.std.proofs.Common.{◌∙◌, map, sym, ap, subst}
 use Rattle.std.proofs.lemmas.Result.{err_from_is_err_and}
 use Rattle.cayley.specs.Valid.{IsValidProblem}
 use Rattle.cayley.specs.Files.{moved_supports}
-use Rattle.cayley.proofs.Lists.Each.{all_each}
-use Rattle.cayley.proofs.OneCell.PlainProblems.{few, counts_of}
-use Rattle.cayley.proofs.OneCell.MovedProblems.{between_valid, made_between, few_supports, stored_heights, second_counts, second_heights}
+use Rattle.int_vectors.proofs.Each.{all_each}
+use Rattle.cayley.proofs.Ranking.PlainProblems.{few, counts_of}
+use Rattle.cayley.proofs.Ranking.MovedProblems.{between_valid, made_between, few_supports, stored_heights, second_counts, second_heights}
 use Rattle.cayley.proofs.problems.Problem.between.Goals as goal
 
 pub check_second-requires : goal.check_second-requires

@@ -4,7 +4,7 @@ use Rattle.cayley.specs.Cells.{Cell, EachPair, IsOf}
 use Rattle.cayley.specs.Problems.{Problem}
 use Rattle.cayley.specs.Stored.{point, version_of, unranked_of, problem_of}
 use Rattle.cayley.specs.declared.points.Support.{Support}
-use Rattle.cayley.proofs.OneCell.Unperturbed.{same_of}
+use Rattle.cayley.proofs.Ranking.Unperturbed.{same_of}
 use Rattle.cayley.proofs.Ranking.StoredProblems.{stored_same}
 use Rattle.cayley.proofs.problems.Problem.contains.Goals as goal
 

@@ -12,8 +12,8 @@ use Rattle.cayley.specs.Valid.{IsValidProblem, IsCornerCoordinate}
 use Rattle.cayley.specs.declared.points.Point.{Point as StoredPoint}
 use Rattle.cayley.specs.declared.points.Support.{Support}
 use Rattle.cayley.proofs.OneCell.EdgeRows.{length-edge_rows, edge_rows_wide}
-use Rattle.cayley.proofs.OneCell.Unperturbed.{same_of, same_rows}
-use Rattle.cayley.proofs.Lists.Each.{all_each}
+use Rattle.cayley.proofs.Ranking.Unperturbed.{same_of, same_rows}
+use Rattle.int_vectors.proofs.Each.{all_each}
 use Rattle.cayley.proofs.Lists.Pairs.{each_pair_long}
 use Rattle.cayley.proofs.Ranking.StoredProblems.{stored_same, stored_small, stored_long, valid_stored}
 use Rattle.cayley.proofs.problems.Problem.edge_rows.Goals as goal

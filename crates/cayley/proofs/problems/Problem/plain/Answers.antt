@@ -1,8 +1,8 @@
 use Rattle.std.proofs.Common.{◌∙◌, sym, subst}
 use Rattle.std.proofs.lemmas.Result.{IfOk-weaker}
 use Rattle.cayley.specs.Valid.{IsValidProblem}
-use Rattle.cayley.proofs.Lists.Each.{all_each}
-use Rattle.cayley.proofs.OneCell.PlainProblems.{few, counts_of, points_of, alike, plain_valid}
+use Rattle.int_vectors.proofs.Each.{all_each}
+use Rattle.cayley.proofs.Ranking.PlainProblems.{few, counts_of, points_of, alike, plain_valid}
 use Rattle.cayley.proofs.problems.Problem.plain.Goals as goal
 
 pub resting_supports-requires : goal.resting_supports-requires

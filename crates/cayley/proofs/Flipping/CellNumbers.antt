@@ -5,13 +5,13 @@ use Rattle.std.proofs.Math.IntN.{ℤ, pos, ◌+ℤ◌, ◌-ℤ◌, ◌*ℤ◌, n
 use Rattle.wide_int.proofs.Ring.{as_D, Ds, same_D}
 use Rattle.int_vectors.proofs.Weighing.{weigh-append}
 use Rattle.cayley.proofs.Algebra.Kernel.{places, weigh-at}
-use Rattle.cayley.proofs.Flipping.Neighbours.{edges-append, dot-sub}
+use Rattle.cayley.proofs.OneCell.Neighbours.{edges-append, dot-sub}
 use Rattle.cayley.proofs.Flipping.Exchange.{Circuit, circuit_of}
 use Rattle.int_vectors.specs.Vectors.{weigh, dot, at, sub}
 use Rattle.cayley.specs.Problems.{Point, point_at}
 use Rattle.cayley.specs.Cells.{Cell}
 use Rattle.cayley.specs.Dependencies.{Numbers, SumsAreZero, total, IsDependencyWith, number_at}
-use Rattle.cayley.proofs.Flipping.Spots.{Spot, problem_of, with_pair}
+use Rattle.cayley.proofs.Flipping.OneSupport.{OneSupport, problem_of, with_pair}
 use Rattle.cayley.specs.Rows.{edges}
 
 -- a sum of numbers is linear in what they weigh
@@ -112,14 +112,14 @@ by_rows (r ∷ sb) s sa (y ∷ cb) x ca (m ∷ ms) g l n z =
       is = λ w. let e = q.is w in let f = pair_row m (point_at r y.0) (point_at r y.1) w z.0 in omega (arith, ints, e, f);
     }
 
-pub record CircuitOf (o : Spot) (x y z : ℕ) (numbers : Numbers) : Type 0 where
+pub record CircuitOf (o : OneSupport) (x y z : ℕ) (numbers : Numbers) : Type 0 where
   pub circuit : Circuit o x y z
   pub x_is : circuit.lx ≡ (number_at numbers.pairs (length o.cb)).0
   pub y_is : circuit.ly ≡ (number_at numbers.pairs (length o.cb)).1
   pub z_is : circuit.lz ≡ numbers.last
 
 -- a dependency, with two numbers for each pair
-pub circuit_of_numbers : (o : Spot) (x y z : ℕ) (numbers : Numbers) → length numbers.pairs ≡ length (with_pair o (x, y)) → IsDependencyWith (problem_of o) (with_pair o (x, y)) (length o.cb) (point_at o.s z) numbers → CircuitOf o x y z numbers
+pub circuit_of_numbers : (o : OneSupport) (x y z : ℕ) (numbers : Numbers) → length numbers.pairs ≡ length (with_pair o (x, y)) → IsDependencyWith (problem_of o) (with_pair o (x, y)) (length o.cb) (point_at o.s z) numbers → CircuitOf o x y z numbers
 unfolding circuit_of
 circuit_of_numbers o x y z numbers long h =
     let m = number_at numbers.pairs (length o.cb) in

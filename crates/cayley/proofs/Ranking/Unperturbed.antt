@@ -8,7 +8,7 @@ use Rattle.cayley.specs.Problems.{Point, Problem, IsProblem, origin, point_at, w
 use Rattle.cayley.specs.Cells.{Cell, EachPair, IsOf, IsIndependent}
 use Rattle.cayley.specs.Rows.{edge_row, edge_rows_from, edge_rows}
 use Rattle.cayley.specs.Dependencies.{IsFurtherAt, nth_support}
-use Rattle.cayley.proofs.Lists.Each.{each_map, each_unmap}
+use Rattle.int_vectors.proofs.Each.{each_map, each_unmap}
 
 abbrev pub unranked : List Point → List Point
 unranked s = map (with_rank 0) s

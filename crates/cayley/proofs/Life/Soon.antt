@@ -10,6 +10,7 @@ use Rattle.cayley.specs.Problems.{Point, Problem, point_at, IsProblem}
 use Rattle.cayley.specs.Normals.{Normal, gap, IsNormal}
 use Rattle.cayley.specs.Cells.{Cell, EachPair, IsOf, IsIndependent, IsFurther}
 use Rattle.cayley.specs.Lives.{AliveJustAfter}
+use Rattle.cayley.proofs.Lists.Pairs.{pairs_map}
 
 pub record Soon (t : Time) (P : Time → Type 0) : Type 0 where
   pub until : Time
@@ -66,12 +67,6 @@ soon_pairs t [] (pair ∷ cell) P e = absurd e
 soon_pairs t (s ∷ supports) [] P e = absurd e
 soon_pairs t (s ∷ supports) (pair ∷ cell) P e = soon_both t (λ x. P x s pair.0 pair.1) (λ x. EachPair supports cell (P x)) e.0 (soon_pairs t supports cell P e.1)
 
-pub each_pair-map : (supports : List (List Point)) (cell : Cell) (P Q : List Point → ℕ → ℕ → Type 0) → ((s : List Point) (a b : ℕ) → P s a b → Q s a b) → EachPair supports cell P → EachPair supports cell Q
-each_pair-map [] [] P Q f e = e
-each_pair-map [] (pair ∷ cell) P Q f e = e
-each_pair-map (s ∷ supports) [] P Q f e = e
-each_pair-map (s ∷ supports) (pair ∷ cell) P Q f e = (f s pair.0 pair.1 e.0, each_pair-map supports cell P Q f e.1)
-
 -- a line of a further point, with its sign just after t
 pub record SoonAbove (p : Problem) (cell : Cell) (t : Time) (a c : Point) : Type 0 where
   pub line : Line
@@ -91,13 +86,12 @@ pub alive_soon : (p : Problem) (cell : Cell) (t : Time) → IsProblem p → IsOf
     → EachPair p.supports cell (λ s a b. (c : ℕ) → IsFurther s a b c → SoonAbove p cell t (point_at s a) (point_at s c)) → AliveJustAfter p cell t
 alive_soon p cell t well of ind signs =
     let s = soon_pairs t p.supports cell (λ x s a b. (c : ℕ) → IsFurther s a b c → AboveAt p cell x (point_at s a) (point_at s c))
-    (each_pair-map p.supports cell _ _
-    (λ s a b h. soon_further t s a b (λ c x. AboveAt p cell x (point_at s a) (point_at s c))
+    (pairs_map p.supports cell _ _ (λ s a b h. soon_further t s a b (λ c x. AboveAt p cell x (point_at s a) (point_at s c))
     (λ c f. let k = h c f in let d = bound t k.line k.sign in record { until = d.until; after = d.after; holds = λ x u w v is. k.above x v is (d.holds x u w) }))
     signs) in (
       s.until,
       s.after,
       λ x before_x until_x.
           let v = a_normal p cell well of ind x in
-          (of, ind, (v.0, v.1, each_pair-map p.supports cell _ _ (λ s a b h c f. h c f v.0 v.1) (s.holds x before_x until_x))),
+          (of, ind, (v.0, v.1, pairs_map p.supports cell _ _ (λ s a b h c f. h c f v.0 v.1) (s.holds x before_x until_x))),
     )

@@ -20,7 +20,7 @@ OnlyLevel (s ∷ supports) (x ∷ cell) zero c t v = (IsFurther s x.0 x.1 c × I
 OnlyLevel (s ∷ supports) (x ∷ cell) (suc j) c t v = NoneLevel t v s x.0 x.1 × OnlyLevel supports cell j c t v
 
 -- one support, with all other supports and their pairs
-pub record Spot : Type 0 where
+pub record OneSupport : Type 0 where
   pub version : Version
   pub n : ℕ
   pub files : List ℕ
@@ -31,15 +31,15 @@ pub record Spot : Type 0 where
   pub ca : Cell
   pub long : length sb ≡ length cb
 
-abbrev pub problem_of : Spot → Problem
+abbrev pub problem_of : OneSupport → Problem
 problem_of o = record { version = o.version; dimension = o.n; files = o.files; supports = o.sb ++ o.s ∷ o.sa }
 
 -- the cell with a pair at the spot
-abbrev pub with_pair : Spot → ℕ × ℕ → Cell
+abbrev pub with_pair : OneSupport → ℕ × ℕ → Cell
 with_pair o x = o.cb ++ x ∷ o.ca
 
 -- at t exactly one further point of the cell with (a, b) at the spot is level, the point c of the spot, and none is below
-pub record LevelPoint (o : Spot) (a b c : ℕ) (t : Time) : Type 0 where
+pub record LevelPoint (o : OneSupport) (a b c : ℕ) (t : Time) : Type 0 where
   pub further : IsFurther o.s a b c
   pub v : Normal
   pub normal : IsNormal (problem_of o) (with_pair o (a, b)) t v
@@ -50,9 +50,9 @@ pub record LevelPoint (o : Spot) (a b c : ℕ) (t : Time) : Type 0 where
   pub right : EachPair o.sa o.ca (NoneLevel t v)
 
 -- c takes the place of a point whose number is negative; ma and mb are the numbers of a dependency at a and b
-abbrev pub IsSuccessor : Spot → ℕ → ℕ → ℕ → ℤ → ℤ → Cell → Type 0
+abbrev pub IsSuccessor : OneSupport → ℕ → ℕ → ℕ → ℤ → ℤ → Cell → Type 0
 IsSuccessor o a b c ma mb tau = ((tau ≡ with_pair o (rising a c)) × (mb <ℤ pos 0)) ⊎ ((tau ≡ with_pair o (rising b c)) × (ma <ℤ pos 0))
 
 -- the cell itself, or c takes the place of a point whose number is positive
-abbrev pub IsPredecessor : Spot → ℕ → ℕ → ℕ → ℤ → ℤ → Cell → Type 0
+abbrev pub IsPredecessor : OneSupport → ℕ → ℕ → ℕ → ℤ → ℤ → Cell → Type 0
 IsPredecessor o a b c ma mb rho = (rho ≡ with_pair o (a, b)) ⊎ ((rho ≡ with_pair o (rising a c)) × (pos 0 <ℤ mb)) ⊎ ((rho ≡ with_pair o (rising b c)) × (pos 0 <ℤ ma))

@@ -6,9 +6,9 @@ use Rattle.wide_int.proofs.Ring.{as_D, Ds, same_D}
 use Rattle.cayley.proofs.Order.Lexicographic.{minus_one}
 use Rattle.cayley.proofs.Algebra.Kernel.{dot_comm}
 use Rattle.cayley.proofs.Algebra.ScaledInverse.{dot-add, dot-scale}
-use Rattle.cayley.proofs.Algebra.RowNormals.{gap-at, at-zero}
+use Rattle.cayley.proofs.Algebra.RowNormals.{gap-at}
 use Rattle.int_vectors.specs.Vectors.{IsZero, scale, dot, at, sub, entries_at}
-use Rattle.int_vectors.proofs.Entries.{at-scale, at-add, zero_from}
+use Rattle.int_vectors.proofs.Entries.{at-scale, at-add, zero_from, at-zero}
 use Rattle.cayley.specs.Problems.{Point, point_at}
 use Rattle.cayley.specs.Times.{Time}
 use Rattle.cayley.specs.Normals.{Normal, height, gap}

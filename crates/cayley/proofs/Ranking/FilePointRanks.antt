@@ -1,6 +1,5 @@
 -- the points of a support in a problem and in the problem of the file points alone: their ranks stand in the same order
-use Rattle.std.proofs.Common.{◌≡◌, ℕ, zero, suc, ◌+◌, ◌-◌, ◌<◌, ◌≤◌, ◌==◌, Bool, true, false, if◌then◌else◌, List, [], ◌∷◌, length, map, take, drop, arith, refl, sym, ap, subst, ◌∙◌}
-use Rattle.std.proofs.lemmas.Bool.{ne_eqb}
+use Rattle.std.proofs.Common.{◌≡◌, ℕ, zero, suc, ◌+◌, ◌-◌, ◌<◌, ◌≤◌, Bool, true, false, if◌then◌else◌, List, [], ◌∷◌, length, map, take, drop, arith, refl, sym, ap, subst, ◌∙◌}
 use Rattle.std.proofs.lemmas.List.{length-take, length-drop}
 use Rattle.std.specs.Prelude.{slice_index_or}
 use Rattle.std.proofs.Math.IntN.{pos}
@@ -8,8 +7,9 @@ use Rattle.int_vectors.specs.Vectors.{Each}
 use Rattle.cayley.specs.Problems.{Version, Point, Problem, origin, point_at, EachSupport, IsStill, with_rank, is_start_corner, numbered, numbered_supports, ranks_in, ranked_supports, HasRanks, first_points, file_points}
 use Rattle.cayley.specs.Problems.Version.{version1, version2}
 use Rattle.cayley.specs.Valid.{IsMoving}
-use Rattle.cayley.proofs.Lists.Each.{all_each, read_take, read_drop}
+use Rattle.int_vectors.proofs.Each.{all_each, read_take, read_drop}
 use Rattle.cayley.proofs.OneCell.RaisedRanks.{place_in, rank_to, IsRankedAs}
+use Rattle.cayley.proofs.Ranking.Numbering.{not_start}
 
 -- s begins with the points of u, with other ranks, and goes on with corners
 pub record Alike (gs : List ℕ) (s u : List Point) : Type 0 where
@@ -30,11 +30,6 @@ abbrev Rising : List Point → Type 0
 Rising s = Each s (λ (x : Point). x.speed ≡ pos 1)
 
 -- ---- one support
-not_start : (i f position : ℕ) → position ≤ f → is_start_corner i f position ≡ false
-not_start i f position l =
-    let a : (position == f + 1) ≡ false = ne_eqb position (f + 1) (λ e. omega (arith, e, l)) in
-    let b : (position == f + 1 + i) ≡ false = ne_eqb position (f + 1 + i) (λ e. omega (arith, e, l)) in
-    rw (a, b) refl
 
 -- the file points have the ranks r, r + 1, ..
 numbered_point : (i f position r : ℕ) (xs : List Point) (k : ℕ) → position + k ≤ f → k < length xs
@@ -42,10 +37,10 @@ numbered_point : (i f position r : ℕ) (xs : List Point) (k : ℕ) → position
 numbered_point i f position r [] k l m = absurd (omega (arith, m))
 numbered_point i f position r (x ∷ xs) zero l m =
     let e : r ≡ r + 0 = omega arith in
-    rw (not_start i f position (omega (arith, l))) (ap (λ n. with_rank n x) e)
+    rw (not_start i f position (λ e. omega (arith, e, l)) (λ e. omega (arith, e, l))) (ap (λ n. with_rank n x) e)
 numbered_point i f position r (x ∷ xs) (suc k) l m =
     let e : suc r + k ≡ r + suc k = omega arith in
-    rw (not_start i f position (omega (arith, l)))
+    rw (not_start i f position (λ e. omega (arith, e, l)) (λ e. omega (arith, e, l)))
     (numbered_point i f (suc position) (suc r) xs k (omega (arith, l)) (omega (arith, m)) ∙ ap (λ n. with_rank n (slice_index_or xs k origin)) e)
 
 -- no speed changes

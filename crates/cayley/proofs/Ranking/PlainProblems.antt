@@ -11,7 +11,7 @@ use Rattle.cayley.specs.Stored.{file_point}
 use Rattle.cayley.specs.Valid.{IsHeight, IsValidFile, IsValidProblem, AreDistinct, IsWithinFile, IsWithinProblem, IsWithinCorners}
 use Rattle.cayley.proofs.Ranking.Unranked.{unranked_ranked}
 use Rattle.cayley.proofs.Ranking.RankedProblems.{ranked_valid}
-use Rattle.cayley.proofs.Lists.Each.{map_map, map_same, each_map, each_weaker, each_unmap}
+use Rattle.int_vectors.proofs.Each.{map_map, map_same, each_map, each_weaker, each_unmap}
 
 abbrev pub resting_all : List (List FilePoint) → List (List Point)
 resting_all supports = map (map resting) supports

@@ -11,8 +11,8 @@ use Rattle.cayley.specs.Shapes.{AreSecondHeights}
 use Rattle.cayley.specs.Stored.{file_point, point}
 use Rattle.cayley.specs.declared.points.FilePoint.{FilePoint as StoredFilePoint}
 use Rattle.cayley.specs.declared.points.Point.{Point as StoredPoint}
-use Rattle.cayley.proofs.Lists.Each.{all_each, each_unmap, each_weaker, map_at, map_map, map_take}
-use Rattle.cayley.proofs.OneCell.PlainProblems.{counts_of, any}
+use Rattle.int_vectors.proofs.Each.{all_each, each_unmap, each_weaker, map_at, map_map, map_take}
+use Rattle.cayley.proofs.Ranking.PlainProblems.{counts_of, any}
 use Rattle.std.specs.List.{All}
 use Rattle.cayley.specs.Valid.{IsHeight, IsValidFile, IsValidProblem, AreDistinct, IsWithinFile, IsWithinProblem, IsWithinCorners}
 

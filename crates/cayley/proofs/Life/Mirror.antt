@@ -8,13 +8,14 @@ use Rattle.cayley.proofs.Order.Times.{turned, turned_both}
 use Rattle.cayley.proofs.Order.Lined.{turned_line, turn-back, SignBefore, sign_turned}
 use Rattle.cayley.proofs.OneCell.CellNormals.{a_normal}
 use Rattle.cayley.proofs.OneCell.CellLines.{point_line}
-use Rattle.cayley.proofs.Order.Soon.{Soon, soon_pairs, soon_further, each_pair-map}
+use Rattle.cayley.proofs.Life.Soon.{Soon, soon_pairs, soon_further}
 use Rattle.int_vectors.specs.Vectors.{IsPositive, scale}
 use Rattle.cayley.specs.Times.{Time}
 use Rattle.cayley.specs.Problems.{Point, Problem, point_at, IsProblem}
 use Rattle.cayley.specs.Normals.{Normal, gap, IsNormal}
 use Rattle.cayley.specs.Cells.{Cell, EachPair, IsOf, IsIndependent, IsFurther}
 use Rattle.cayley.specs.Lives.{AliveJustBefore}
+use Rattle.cayley.proofs.Lists.Pairs.{pairs_map}
 
 twice : (xs : List ℤ) → scale (neg_ℤ (pos 1)) (scale (neg_ℤ (pos 1)) xs) ≡ xs
 twice [] = refl
@@ -59,8 +60,7 @@ pub alive_lately : (p : Problem) (cell : Cell) (t : Time) → IsProblem p → Is
     → EachPair p.supports cell (λ s a b. (c : ℕ) → IsFurther s a b c → LateAbove p cell t (point_at s a) (point_at s c)) → AliveJustBefore p cell t
 alive_lately p cell t well of ind signs =
     let q = soon_pairs (turned t) p.supports cell (λ x s a b. (c : ℕ) → IsFurther s a b c → AboveAt p cell (turned x) (point_at s a) (point_at s c))
-    (each_pair-map p.supports cell _ _
-    (λ s a b h. soon_further (turned t) s a b (λ c x. AboveAt p cell (turned x) (point_at s a) (point_at s c))
+    (pairs_map p.supports cell _ _ (λ s a b h. soon_further (turned t) s a b (λ c x. AboveAt p cell (turned x) (point_at s a) (point_at s c))
     (λ c f. let k = h c f in let d = bound (turned t) (turned_line k.line) (sign_turned t k.line k.sign) in
     record { until = d.until; after = d.after; holds = λ x u w v is. k.above (turned x) v is (positive-same _ _ (turn-back k.line x) (d.holds x u w)) }))
     signs) in
@@ -69,5 +69,5 @@ alive_lately p cell t well of ind signs =
       s.before,
       λ x from_x before_x.
           let v = a_normal p cell well of ind x in
-          (of, ind, (v.0, v.1, each_pair-map p.supports cell _ _ (λ s a b h c f. h c f v.0 v.1) (s.holds x from_x before_x))),
+          (of, ind, (v.0, v.1, pairs_map p.supports cell _ _ (λ s a b h c f. h c f v.0 v.1) (s.holds x from_x before_x))),
     )
