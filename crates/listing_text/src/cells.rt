@@ -197,8 +197,9 @@ fn last_line(lines: &mut Lines) -> Result<u64, TextFault>
     ensures end_line { lines.new.end_line ≡ lines.old.end_line }
 {
     let mut line = next_line(lines)?;
+    let end_number = line.number();
     end_line(&mut line)?;
-    Ok(line.number())
+    Ok(end_number)
 }
 
 /// The lines `cells K` through `end` of supports of so many file points. What follows is left in

@@ -40,8 +40,6 @@ well_of p valid = valid.shape.problem
 abbrev pub IsTurn : Problem → shares.Branch → List Cell → List shares.Branch → Type 0
 IsTurn p b own kids = (IsTrueBranch p b × IsOwn (IsMixedCell p) b.cell own × IsChildren p b.cell kids) ⊎ (¬ (IsTrueBranch p b) × (own ≡ []) × (kids ≡ []))
 
-)
-
 pub turn_of : (p : Problem) → IsStillProblem p → (b : Branch) (e : Expansion) → IsExpansion p b e → IsTurn p (branch_of b) (cells_of (found_in e)) (branches_of (opened e))
 turn_of p still b (Inner children) h = inl (h.0.0.2, inr ((λ m. h.0.2 (target_law p b.cell still m)), refl), h.1)
 turn_of p still b (Target found) h = inl (h.0.0.2, inl (h.2, ap (λ c. c ∷ []) h.1), late_children p b.cell still.problem h.0.2)
