@@ -21,3 +21,6 @@ pub use path_log::{LogNode, PathLog};
 pub use path_trace::TraceNode;
 pub use searcher::{Branch, Children};
 pub use verifying::verify;
+
+#[cfg(test)]
+mod tests;
