@@ -1,5 +1,5 @@
 -- one line at most is the first that doesn't pass, and for one cause; so each answer comes exactly where it has to
-use Rattle.std.proofs.Common.{◌≡◌, ◌↔◌, ◌⊎◌, ℕ, ◌+◌, List, [], ◌∷◌, ◌++◌, length, arith, refl, sym, ap, ap₂, subst, ◌∙◌, append-nil, Some, Ok, Err, inl, inr}
+use Rattle.std.proofs.Common.{◌≡◌, ◌↔◌, ◌⊎◌, ℕ, List, [], ◌∷◌, ◌++◌, length, arith, refl, sym, ap, ap₂, subst, ◌∙◌, append-nil, Some, Ok, Err, inl, inr}
 use Rattle.wide_int.proofs.Bools.{some_is}
 use Rattle.std.proofs.lemmas.List.{length-append}
 use Rattle.cayley.specs.declared.found.FoundCell.{FoundCell}

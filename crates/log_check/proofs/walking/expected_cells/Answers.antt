@@ -1,9 +1,8 @@
-use Rattle.std.proofs.Common.{rules, ◌≡◌, ◌<◌, ◌≤◌, [], length, sym, ap, subst, ◌∙◌, arith}
+use Rattle.std.proofs.Common.{rules, ◌≡◌, ◌<◌, ◌≤◌, length, sym, ap, subst, arith}
 use Rattle.std.proofs.lemmas.List.{nil_from_length}
 use Rattle.cayley.specs.Problems.{IsStill}
 use Rattle.start_system.specs.Started.{IsStarted}
 use Rattle.start_system.proofs.Started.SearchLaws.{path_law}
-use Rattle.log_check.specs.Dues.{AreTrue}
 use Rattle.log_check.proofs.LogSteps.{way_begun, shape_there, way_turned, halted_there, due_there, all_there}
 use Rattle.log_check.proofs.walking.expected_cells.Goals as goal
 

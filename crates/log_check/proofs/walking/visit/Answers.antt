@@ -1,8 +1,7 @@
-use Rattle.std.proofs.Common.{rules, ◌≡◌, [], ◌∷◌, ◌++◌, map, reverse, refl, sym, ap, subst, ◌∙◌, IsTrue}
+use Rattle.std.proofs.Common.{rules, ◌++◌, reverse, refl, sym, ap, subst, ◌∙◌, IsTrue}
 use Rattle.cayley.specs.Times.{Time}
 use Rattle.cayley.specs.Mixed.{IsAlive}
 use Rattle.cayley.specs.Cells.{Cell}
-use Rattle.searcher.specs.declared.branches.Branch.{Branch}
 use Rattle.log_check.specs.Dues.{AreTrue, opened_by, found_by}
 use Rattle.log_check.specs.Verdicts.{IsNext}
 use Rattle.log_check.proofs.DueTurns.{some_alive, next_first, cells_in_turn}
