@@ -4,3 +4,5 @@ pub mod Products
 pub mod Walled
 pub mod Laws
 pub mod Walks
+pub mod Verdicts
+pub mod Dues

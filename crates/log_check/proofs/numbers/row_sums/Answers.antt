@@ -1,4 +1,4 @@
-use Rattle.std.proofs.Common.{rules, ◌∙◌, ◌-◌, take, arith, sym, subst, FitsSigned, to_z-of_z, ◌+ℤ◌, pos}
+use Rattle.std.proofs.Common.{rules, ◌∙◌, take, arith, sym, subst, FitsSigned, to_z-of_z, pos}
 use Rattle.std.specs.Int.{w128}
 use Rattle.std.proofs.Math.IntN.{+ℤ_idl}
 use Rattle.int_vectors.specs.Fits.{AllFit, FitsDot}
