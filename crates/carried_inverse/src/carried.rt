@@ -18,10 +18,10 @@ ghost use Rattle.carried_inverse.specs.Answers.{IsExchange, IsStep, IsFlip, HasP
 
 use crate::beginning::{short, short_columns, zeros};
 use crate::columns::{
-    Column, combine_all, combine_lowest, copy_columns, divide_all, divisor_of, greatest_of,
-    products, turn,
+    Column, combine_all, copy_columns, divide_all, divisor_of, greatest_of, products, turn,
 };
-use crate::entries::{combine, greatest, is_short, less, quotient, shared_signed, size, times};
+use crate::combining::combine_lowest;
+use crate::entries::{greatest, is_short, less, quotient, size, times};
 use crate::falling::falls_of;
 use crate::flips::{first_of, point_of, product_within, put_differences, signs_of};
 use crate::sums::sums_of;
@@ -93,7 +93,7 @@ fn lower(columns: &mut Vec<Column>, den: i64) -> i64
 }
 
 // The columns of the new rows, by the products of the new row and the old columns; gives their
-// denominator. A divisor of the numbers at the place mostly divides all combinations.
+// denominator. Their divisor is found on the way.
 fn exchange_columns(
     columns: &mut Vec<Column>,
     spare: &mut Vec<Column>,
@@ -121,10 +121,7 @@ fn exchange_columns(
     shares[place] = share;
     let multiple = times(den, pivot);
     let by = columns[place].as_slice();
-    kept.copy_from_slice(by);
-    combine(kept, pivot, share, by);
-    let start = shared_signed(multiple, kept);
-    if let Some(g) = combine_lowest(columns, pivot, shares, by, start, spare) {
+    if let Some(g) = combine_lowest(columns, pivot, shares, by, multiple, spare) {
         mem::swap(columns, spare);
         return quotient(multiple, g);
     }
