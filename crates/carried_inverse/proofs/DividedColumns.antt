@@ -72,7 +72,7 @@ unscaled_within g m [] p h = tt
 unscaled_within g m (x ∷ xs) p h =
     ((le-div_iff_mul-le {k = unsigned_abs g} {x = unsigned_abs x} {y = m} p).1 (let e = unsigned_abs-mul g x in let a = h.0 in omega (arith, e, a)), unscaled_within g m xs p h.1)
 
-unscaled_all : (g : ℤ) (m : ℕ) (xs : List (List ℤ)) → 0 < unsigned_abs g → Each (map (scale g) xs) (Within m) → Each xs (Within (m / unsigned_abs g))
+pub unscaled_all : (g : ℤ) (m : ℕ) (xs : List (List ℤ)) → 0 < unsigned_abs g → Each (map (scale g) xs) (Within m) → Each xs (Within (m / unsigned_abs g))
 unscaled_all g m [] p h = tt
 unscaled_all g m (x ∷ xs) p h = (unscaled_within g m x p h.0, unscaled_all g m xs p h.1)
 

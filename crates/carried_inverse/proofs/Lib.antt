@@ -4,6 +4,7 @@ mod Turning
 mod Exchanging
 mod Lowering
 mod DividedColumns
+mod Growing
 pub mod CellMoves
 pub mod Rooms
 pub mod FromRows

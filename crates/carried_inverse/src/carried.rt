@@ -1,4 +1,4 @@
-ghost use Rattle.std.specs.Prelude.{IsTrue, IfOk, IfSome, ◌∷◌, [], ◌-◌, ◌≡◌, ◌≢◌, ◌+◌, ◌*◌, ◌<◌, ◌≤◌, ◌^◌, ℕ, ℤ, List, pos, ◌*ℤ◌, ◌-ℤ◌, ◌+ℤ◌, ◌<ℤ◌, unsigned_abs, length, map};
+ghost use Rattle.std.specs.Prelude.{IsTrue, ◌/◌, IfOk, IfSome, ◌∷◌, [], ◌-◌, ◌≡◌, ◌≢◌, ◌+◌, ◌*◌, ◌<◌, ◌≤◌, ◌^◌, ℕ, ℤ, List, pos, ◌*ℤ◌, ◌-ℤ◌, ◌+ℤ◌, ◌<ℤ◌, unsigned_abs, length, map};
 ghost use Rattle.int_vectors.specs.Bounds.{Within};
 ghost use Rattle.int_vectors.specs.Vectors.{Each, at, dot, row_at};
 ghost use Rattle.cayley.specs.Cells as cells;
@@ -145,9 +145,37 @@ fn sums_fit(n: usize, numbers: &[i64], most: u64) -> bool
 
 // What an exchange makes of the columns.
 enum Step {
-    Made { den: i64 },
+    // Its denominator, and a bound on this and all entries.
+    Made { den: i64, most: u64 },
     Dependent,
     TooLarge,
+}
+
+// A bound on what an exchange makes over `made`, by bounds on the products and on all else.
+fn grown(share: u64, most: u64, den: i64, pivot: u64, made: i64) -> u64
+    requires share { share < 2 ^ 61 }
+    requires most { most < 2 ^ 61 }
+    requires room { (2 * share + most) * most < 2 ^ 62 }
+    requires product { unsigned_abs den * pivot < 2 ^ 62 }
+    requires made { pos 0 <ℤ made }
+    requires divisor { 0 < (unsigned_abs den * pivot) / unsigned_abs made }
+    ensures { result ≡ ((2 * share + most) * most) / ((unsigned_abs den * pivot) / unsigned_abs made) }
+{
+    (2 * share + most) * most / (den.unsigned_abs() * pivot / made.unsigned_abs())
+}
+
+// The bound, or a less one where it isn't small.
+fn settled(most: u64, den: i64, columns: &[Column]) -> u64
+    requires den { unsigned_abs den ≤ most }
+    requires columns { Each columns.now (Within most) }
+    ensures den { unsigned_abs den ≤ result }
+    ensures columns { Each columns.now (Within result) }
+{
+    if most < 1 << 20 {
+        most
+    } else {
+        greatest_of(den, columns)
+    }
 }
 
 // One exchange of columns over `den`.
@@ -182,11 +210,15 @@ fn exchange_step(
     if shares[place] == 0 {
         return Step::Dependent;
     }
-    if !leaves_room(greatest(shares), most) {
+    let share = greatest(shares);
+    if !leaves_room(share, most) {
         return Step::TooLarge;
     }
+    let pivot = shares[place].unsigned_abs();
+    let made = exchange_columns(columns, spare, den, place, shares, kept);
     Step::Made {
-        den: exchange_columns(columns, spare, den, place, shares, kept),
+        den: made,
+        most: grown(share, most, den, pivot, made),
     }
 }
 
@@ -277,8 +309,8 @@ impl Carried {
             &mut self.shares,
             &mut self.kept,
         ) {
-            Step::Made { den } => {
-                self.most = greatest_of(den, &self.columns);
+            Step::Made { den, most } => {
+                self.most = settled(most, den, &self.columns);
                 self.den = den;
                 Exchange::Made
             }
