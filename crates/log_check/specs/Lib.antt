@@ -4,3 +4,4 @@ pub mod Products
 pub mod Walled
 pub mod Laws
 pub mod Walks
+pub mod Verdicts

@@ -7,9 +7,14 @@ mod judging;
 pub mod laws;
 mod numbers;
 mod products;
+mod refusal;
+mod verifying;
 mod walls;
 
+pub use cell_certificate::{CheckFault, Verdict};
 pub use judgement::Judgement;
 pub use judging::judge;
+pub use path_log::{LogNode, PathLog};
 pub use path_trace::TraceNode;
 pub use searcher::{Branch, Children};
+pub use verifying::verify;
