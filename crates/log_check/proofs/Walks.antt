@@ -31,7 +31,7 @@ split p (x ∷ xs) ys _ (onward {below = below} {after = after} list down on) =
       whole = ap (λ l. x ∷ l) (ap (λ l. below ++ l) r.whole ∙ sym (append_assoc below r.below r.after));
     }
 
-joined : (p : Problem) (xs ys below after : List Cell) → ArePreorders p xs below → ArePreorders p ys after → ArePreorders p (xs ++ ys) (below ++ after)
+pub joined : (p : Problem) (xs ys below after : List Cell) → ArePreorders p xs below → ArePreorders p ys after → ArePreorders p (xs ++ ys) (below ++ after)
 joined p _ ys _ after ended on = on
 joined p _ ys _ after (onward {cell = cell} {cells = cells} {below = below} {after = rest} list down there) on =
     subst (λ l. ArePreorders p (cell ∷ (cells ++ ys)) (cell ∷ l)) (sym (append_assoc below rest after)) (onward list down (joined p cells ys rest after there on))

@@ -5,3 +5,4 @@ pub mod Walled
 pub mod Laws
 pub mod Walks
 pub mod Verdicts
+pub mod Dues

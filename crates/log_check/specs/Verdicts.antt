@@ -1,5 +1,5 @@
 -- What the answers say of a log: its nodes in order, and its listed cells against those that the nodes let expect.
-use Rattle.std.specs.Prelude.{◌≡◌, ◌⊎◌, ℕ, Option, None, Some, List, [], ◌∷◌, ◌++◌, map, Contains, Ok, Err}
+use Rattle.std.specs.Prelude.{◌≡◌, ◌⊎◌, ℕ, Option, MatchOption, None, Some, List, [], ◌∷◌, ◌++◌, map, Contains, Ok, Err}
 use Rattle.int_vectors.specs.Vectors.{Each}
 use Rattle.cayley.specs.declared.found.FoundCell.{FoundCell}
 use Rattle.cayley.specs.Problems.{version2, Problem, file_points}
@@ -17,6 +17,8 @@ use Rattle.listing_text.specs.Forms.{found_of}
 use Rattle.listing_text.specs.Listings.{AreMixedCells}
 use Rattle.cell_certificate.specs.Answers.{Answer}
 use Rattle.cell_certificate.specs.declared.verdict.Verdict.TheVariants.{Yes, No}
+use Rattle.cell_certificate.specs.declared.verdict.CheckFault.TheVariants as faults
+use Rattle.cell_certificate.specs.declared.verdict.CheckFault.TheVariants.{Overflow}
 use Rattle.path_trace.specs.declared.trace.TraceNode.{TraceNode}
 use Rattle.path_trace.specs.Preorders.{IsPreorder, cells_in}
 use Rattle.path_log.specs.declared.log.LogNode.{LogNode}
@@ -24,6 +26,8 @@ use Rattle.path_log.specs.declared.log.PathLog.{PathLog}
 use Rattle.path_log.specs.Forms.{node_of}
 use Rattle.log_check.specs.declared.refusal.Refusal.{Refusal}
 use Rattle.log_check.specs.declared.refusal.Refusal.TheVariants.{NotDue, Unfit, NotInverse, Tied, StillDue, NotExpected, Missing}
+use Rattle.log_check.specs.declared.refusal.Halt.{Halt}
+use Rattle.log_check.specs.declared.refusal.Halt.TheVariants.{Refused, OutOfMemory}
 use Rattle.log_check.specs.Nodes.{HasShape, HasInverse, IsFit, IsUnfit, IsOther, IsStopped}
 use Rattle.log_check.specs.Walks.{Leads}
 
@@ -57,20 +61,26 @@ abbrev pub IsNext : {A : Type 0} → A → List A → Type 0
 IsNext x [] = ⊥
 IsNext x (y ∷ ys) = x ≡ y
 
--- P holds of a node of this line and of the cells that are due there, and all nodes before it pass
-pub record AtNode (log : PathLog) (line : ℕ) (P : TraceNode → List Cell → Type 0) : Type 0 where
+-- what speaks against a node where these cells are due: its cell isn't the next of them, or else its numbers
+abbrev pub Against : Problem → TraceNode → List Cell → Refusal → Type 0
+Against p node due NotDue = ¬ (IsNext node.cell due)
+Against p node due Unfit = IsNext node.cell due × IsUnfit p node
+Against p node due NotInverse = IsNext node.cell due × IsOther p node
+Against p node due Tied = IsNext node.cell due × IsStopped p node
+Against p node due StillDue = ⊥
+Against p node due NotExpected = ⊥
+Against p node due Missing = ⊥
+
+-- the nodes before one of this line pass, and this speaks against it
+pub record AtNode (log : PathLog) (line : ℕ) (refusal : Refusal) : Type 0 where
   pub before : List LogNode
   pub this : LogNode
   pub after : List LogNode
   pub due : List Cell
   pub whole : log.nodes.items ≡ before ++ this ∷ after
   pub passed : LeadsTo log before due
-  pub here : this.line ≡ line
-  pub holds : P this.node due
-
--- the same, and the node's cell is the next that is due
-abbrev pub AtDueNode : PathLog → ℕ → (Problem → TraceNode → Type 0) → Type 0
-AtDueNode log line P = AtNode log line (λ node due. IsNext node.cell due × P (path_in log) node)
+  pub same : this.line ≡ line
+  pub against : Against (path_in log) this.node due refusal
 
 -- ---- its listed cells
 -- the cell of a node that never ends and has file points alone
@@ -85,7 +95,7 @@ pub record AreExpected (p : Problem) (nodes : List TraceNode) (found : List Foun
 -- all nodes pass, nothing is due then, and these cells are expected
 pub record Expects (log : PathLog) (found : List FoundCell) : Type 0 where
   pub passed : LeadsTo log log.nodes.items []
-  pub found : AreExpected (path_in log) (nodes_in log) found
+  pub expected : AreExpected (path_in log) (nodes_in log) found
 
 -- the cells before a line are the first that are expected, and that of this line isn't the next
 pub record AtCell (log : PathLog) (line : ℕ) : Type 0 where
@@ -95,7 +105,7 @@ pub record AtCell (log : PathLog) (line : ℕ) : Type 0 where
   pub left : List FoundCell
   pub whole : log.part.cells.items ≡ before ++ this ∷ after
   pub expects : Expects log (listed_of before ++ left)
-  pub here : this.line ≡ line
+  pub same : this.line ≡ line
   pub other : ¬ (IsNext (found_of this) left)
 
 -- ---- the answers
@@ -105,13 +115,18 @@ IsRightLog log = Expects log (listed_in log)
 
 -- this line is the first that doesn't pass, for this cause
 abbrev pub IsRefused : PathLog → ℕ → Refusal → Type 0
-IsRefused log line NotDue = AtNode log line (λ node due. ¬ (IsNext node.cell due))
-IsRefused log line Unfit = AtDueNode log line IsUnfit
-IsRefused log line NotInverse = AtDueNode log line IsOther
-IsRefused log line Tied = AtDueNode log line IsStopped
+IsRefused log line NotDue = AtNode log line NotDue
+IsRefused log line Unfit = AtNode log line Unfit
+IsRefused log line NotInverse = AtNode log line NotInverse
+IsRefused log line Tied = AtNode log line Tied
 IsRefused log line StillDue = (line ≡ log.part.cells_line) × ((cell : Cell) × (due : List Cell) × LeadsTo log log.nodes.items (cell ∷ due))
 IsRefused log line NotExpected = AtCell log line
 IsRefused log line Missing = (line ≡ log.part.end_line) × ((next : FoundCell) × (left : List FoundCell) × Expects log (listed_in log ++ next ∷ left))
+
+-- the first line that doesn't pass, or want of memory
+abbrev pub IsHalt : PathLog → Halt → Type 0
+IsHalt log (Refused line refusal) = IsRefused log line refusal
+IsHalt log OutOfMemory = Unit {0}
 
 -- the number of its reason
 abbrev pub reason_of : Refusal → Option ℕ
@@ -130,6 +145,18 @@ IsWrongLog log line reason = (refusal : Refusal) × (reason_of refusal ≡ Some 
 -- the first line that doesn't pass has this number, and a number that doesn't fit
 abbrev pub IsTooLargeLog : PathLog → ℕ → Type 0
 IsTooLargeLog log line = IsRefused log line Unfit
+
+-- the answer to a halt
+abbrev pub IsAnswerOf : Halt → Answer → Type 0
+IsAnswerOf (Refused line refusal) answer = MatchOption (reason_of refusal) (answer ≡ Err (Overflow line)) (λ reason. answer ≡ Ok (No line reason))
+IsAnswerOf OutOfMemory answer = answer ≡ Err faults.OutOfMemory
+
+-- what each answer says of the log
+abbrev pub IsVerdict : PathLog → Answer → Type 0
+IsVerdict log (Ok Yes) = IsRightLog log
+IsVerdict log (Ok (No line reason)) = IsWrongLog log line reason
+IsVerdict log (Err (Overflow line)) = IsTooLargeLog log line
+IsVerdict log (Err faults.OutOfMemory) = Unit {0}
 
 -- ---- what a right log says
 -- the nodes are the path tree in preorder, and the listed cells the share of the start branch, in cell order, with their normals in lowest terms

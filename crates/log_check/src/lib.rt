@@ -2,6 +2,8 @@
 #![tactic(auto)]
 
 mod columns;
+mod comparing;
+mod dues;
 mod judgement;
 mod judging;
 pub mod laws;
@@ -9,6 +11,7 @@ mod numbers;
 mod products;
 mod refusal;
 mod verifying;
+mod walking;
 mod walls;
 
 pub use cell_certificate::{CheckFault, Verdict};

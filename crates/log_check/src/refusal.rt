@@ -16,3 +16,10 @@ pub(crate) enum Refusal {
     // An expected cell isn't listed.
     Missing,
 }
+
+/// Why a log isn't accepted.
+#[derive(Clone, Copy)]
+pub(crate) enum Halt {
+    Refused { line: u64, refusal: Refusal },
+    OutOfMemory,
+}

@@ -1,2 +1,2 @@
-mod Members
+pub mod Members
 pub mod Independence
