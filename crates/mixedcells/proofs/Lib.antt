@@ -4,6 +4,7 @@ mod Readings
 mod Checks
 mod Powered
 mod SystemReplies
+mod LogReplies
 mod MoveReplies
 mod Moved
 mod Exact

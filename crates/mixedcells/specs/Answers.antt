@@ -22,6 +22,7 @@ use Rattle.mixedcells.specs.declared.outcome.Outcome.TheVariants as variant
 use Rattle.mixedcells.specs.Families.{family_file, lifted_text}
 use Rattle.mixedcells.specs.Walks.{IsReachedListing, IsReachedSum, IsWalkReply, IsTieReply}
 use Rattle.mixedcells.specs.Moving.{IsMovedReply}
+use Rattle.mixedcells.specs.Logs.{IsTracedText, IsLogText, IsJudgedLog}
 use Rattle.mixedcells.specs.Outcomes.{yes_line, format_line, no_line, overflow_line, too_many_line, overflow_cell}
 
 -- the longest input that is read
@@ -134,6 +135,12 @@ IsMoveReply bytes outcome text =
     ((listing : Listing) × (second : List (List ℤ)) × IsMoveText bytes listing second × IsMovedReply listing second outcome text)
     ⊎ ((fault : FormatFault) × (move_of bytes ≡ Err fault) × TellsFault fault outcome text)
 
+-- what `verify` replies: what is said of the log that the bytes mean, or their first fault
+abbrev pub IsLogReply : List ℕ → Outcome → List ℕ → Type 0
+IsLogReply bytes outcome text =
+    ((log : PathLog) × IsLogText bytes log × IsJudgedLog log outcome text)
+    ⊎ ((fault : FormatFault) × (log_of bytes ≡ Err fault) × TellsFault fault outcome text)
+
 -- what `poly` replies: the canonical text of the file that lifts the system which the bytes mean, or their first fault
 abbrev pub IsSystemReply : ℕ → List ℕ → Outcome → List ℕ → Type 0
 IsSystemReply seed bytes outcome text =
@@ -151,6 +158,8 @@ IsReply (verb.List searchers) bytes outcome text = IsAloneReply searchers IsReac
 IsReply (verb.Sum searchers) bytes outcome text = IsAloneReply searchers IsReachedSum bytes outcome text
 IsReply verb.Generic bytes outcome text = IsGenericReply bytes outcome text
 IsReply verb.Move bytes outcome text = IsMoveReply bytes outcome text
+IsReply verb.Trace bytes outcome text = IsFileReply (IsWalkReply IsTracedText) bytes outcome text
+IsReply verb.Verify bytes outcome text = IsLogReply bytes outcome text
 IsReply verb.Check bytes outcome text = IsCheckReply bytes outcome text
 IsReply verb.Powers bytes outcome text = IsPowersReply bytes outcome text
 IsReply (verb.Poly seed) bytes outcome text = IsSystemReply seed bytes outcome text

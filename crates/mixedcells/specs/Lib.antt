@@ -6,6 +6,7 @@ pub mod Families
 pub mod Outcomes
 pub mod Walks
 pub mod Moving
+pub mod Logs
 pub mod Journeys
 pub mod Answers
 pub mod Runs
