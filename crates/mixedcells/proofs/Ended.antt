@@ -5,8 +5,9 @@ use Rattle.cayley.specs.Files.{File}
 use Rattle.edge_io.specs.Faults.{Rose}
 use Rattle.mixedcells.specs.Words.{HasMeaning, reads}
 use Rattle.mixedcells.specs.Outcomes.{status_of}
+use Rattle.mixedcells.specs.Logs.{IsTracedText}
 use Rattle.mixedcells.specs.Walks.{IsReachedListing, IsReachedSum, IsWalkReply, IsTieReply}
-use Rattle.mixedcells.specs.Answers.{IsReply, IsFileReply, IsListReply, IsAloneReply, IsCheckReply, IsPowersReply, IsMoveReply, IsSystemReply}
+use Rattle.mixedcells.specs.Answers.{IsReply, IsFileReply, IsListReply, IsAloneReply, IsCheckReply, IsPowersReply, IsMoveReply, IsLogReply, IsSystemReply}
 use Rattle.mixedcells.specs.Runs.{IsAnswer, IsInput, IsCalledFor, IsFree, IsCutOff, Finishes}
 use Rattle.mixedcells.specs.declared.words.Command.{Command}
 use Rattle.mixedcells.specs.declared.words.Command.TheVariants as verb
@@ -79,6 +80,7 @@ check_not_fault bytes t (inr h) = let e = ap status_of h.2.0 in omega (arith, e)
 powers_not_fault : (bytes t : List ℕ) → IsPowersReply bytes WriteFault t → ⊥
 powers_not_fault bytes t (inl h) = h.2
 powers_not_fault bytes t (inr h) = let e = ap status_of h.2.0 in omega (arith, e)
+
 move_not_fault : (bytes t : List ℕ) → IsMoveReply bytes WriteFault t → ⊥
 move_not_fault bytes t (inl h) = h.3
 move_not_fault bytes t (inr h) = let e = ap status_of h.2.0 in omega (arith, e)

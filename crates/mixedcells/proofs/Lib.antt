@@ -1,6 +1,7 @@
 mod CommandLine
 mod Ended
 mod Readings
+mod Judging
 mod Checks
 mod Powered
 mod SystemReplies
@@ -14,6 +15,8 @@ mod Spared
 mod Judged
 mod Walking
 mod AlongPaths
+mod WrittenLogs
+mod Verified
 mod Teams
 mod ForOne
 mod QuietFiles

@@ -12,6 +12,8 @@ use Rattle.poly_text.specs.SystemText.{PointSystem, system_of}
 use Rattle.homotopy_rows.specs.Answers.{IsPowersText}
 use Rattle.homotopy_rows.specs.Flat.{FirstFlat}
 use Rattle.lift_move.specs.MoveText.{move_of}
+use Rattle.path_log.specs.declared.log.PathLog.{PathLog}
+use Rattle.path_log.specs.LogText.{log_of}
 use Rattle.plain_lister.specs.Choices.{HasTooMany, IsExcess}
 use Rattle.plain_lister.specs.Lists.{AllFit, IsFirstUnfit}
 use Rattle.mixedcells.specs.declared.words.meaning.Family.{Family}
@@ -21,6 +23,7 @@ use Rattle.mixedcells.specs.declared.outcome.Outcome.{Outcome}
 use Rattle.mixedcells.specs.declared.outcome.Outcome.TheVariants as variant
 use Rattle.mixedcells.specs.Families.{family_file, lifted_text}
 use Rattle.mixedcells.specs.Walks.{IsReachedListing, IsReachedSum, IsWalkReply, IsTieReply}
+use Rattle.mixedcells.specs.Judging.{IsJudgedAs}
 use Rattle.mixedcells.specs.Moving.{IsMovedReply}
 use Rattle.mixedcells.specs.Logs.{IsTracedText, IsLogText, IsJudgedLog}
 use Rattle.mixedcells.specs.Outcomes.{yes_line, format_line, no_line, overflow_line, too_many_line, overflow_cell}
@@ -71,19 +74,7 @@ IsGenericReply = IsFileReply IsTieReply
 
 -- what is said of a listing: every line passes, or the first that doesn't, with the reason or for a number that doesn't fit
 abbrev pub IsVerdictReply : Listing → Outcome → List ℕ → Type 0
-IsVerdictReply listing variant.Ok text = (text ≡ yes_line) × IsRight listing
-IsVerdictReply listing (variant.No line reason) text = (text ≡ no_line line reason) × IsWrong listing line reason
-IsVerdictReply listing (variant.OverflowLine line) text = (text ≡ overflow_line line) × IsTooLarge listing line
-IsVerdictReply listing variant.Usage text = ⊥
-IsVerdictReply listing (variant.Format line kind) text = ⊥
-IsVerdictReply listing (variant.OverflowCell cell) text = ⊥
-IsVerdictReply listing variant.ReadFault text = ⊥
-IsVerdictReply listing variant.WriteFault text = ⊥
-IsVerdictReply listing variant.OutOfMemory text = ⊥
-IsVerdictReply listing variant.TooLong text = ⊥
-IsVerdictReply listing (variant.TooMany choices) text = ⊥
-IsVerdictReply listing (variant.Tie proof) text = ⊥
-IsVerdictReply listing variant.NeedsTeam text = ⊥
+IsVerdictReply listing = IsJudgedAs (IsRight listing) (IsWrong listing) (IsTooLarge listing)
 
 -- the bytes mean this listing
 abbrev pub IsListingText : List ℕ → Listing → Type 0
