@@ -5,7 +5,7 @@ mod Exchanging
 mod Lowering
 mod DividedColumns
 mod Growing
-pub mod CellMoves
+mod CellMoves
 pub mod Rooms
 pub mod FromRows
 mod LowestRows

@@ -1,10 +1,12 @@
 ghost use Rattle.std.specs.Prelude.{◌≡◌, ◌+◌, ◌*◌, ◌<◌, ◌≤◌, ◌^◌, ℕ, ℤ, List, pos, ◌<ℤ◌, unsigned_abs, IfSome, length, map, take};
+ghost use Prim.Native.Nat.{◌∣◌};
 ghost use Rattle.int_vectors.specs.Bounds.{Within};
+ghost use Rattle.int_vectors.specs.Contents.{DividesEach};
 ghost use Rattle.int_vectors.specs.Vectors.{Each, scale};
 ghost use Rattle.carried_inverse.specs.Exchanges.{combined, IsDivisorOf, IsDividedTo, HasRoom};
 
 use crate::columns::Column;
-use crate::entries::{common, quotient};
+use crate::entries::{combined_at, common, quotient};
 
 // How often the divisor is made less for a column.
 const DIVISORS: u32 = 64;
@@ -60,6 +62,26 @@ fn put_column(
     None
 }
 
+// The greatest common divisor of `start` and one number of each combination, which mostly is that of
+// all numbers.
+fn divisor_along(columns: &[Column], pivot: i64, shares: &[i64], by: &[i64], start: i64) -> i64
+    requires square { length by.now ≡ length columns.now }
+    requires count { length shares.now ≡ length columns.now }
+    requires long { Each columns.now (λ column. length column ≡ length by.now) }
+    requires positive { pos 0 <ℤ start }
+    requires room { HasRoom pivot shares.now columns.now by.now }
+    ensures positive { pos 0 <ℤ result }
+    ensures divides { unsigned_abs result ∣ unsigned_abs start }
+    ensures greatest { (d : ℕ) → d ∣ unsigned_abs start → Each (combined pivot shares.now columns.now by.now) (DividesEach d) → d ∣ unsigned_abs result }
+{
+    let mut g = start;
+    for k in 0..columns.len() {
+        let one = combined_at(columns[k].as_slice(), pivot, shares[k], by, k);
+        g = common(one, g);
+    }
+    g
+}
+
 // Puts the combinations, divided by the greatest common divisor of `start` and all their numbers, in
 // the places of the columns `made`, and gives that divisor. `None` where many divisors were tried.
 pub(crate) fn combine_lowest(
@@ -70,6 +92,7 @@ pub(crate) fn combine_lowest(
     start: i64,
     made: &mut Vec<Column>,
 ) -> Option<i64>
+    requires square { length by.now ≡ length columns.now }
     requires count { length shares.now ≡ length columns.now }
     requires long { Each columns.now (λ column. length column ≡ length by.now) }
     requires made_count { length made.old.items ≡ length columns.now }
@@ -81,7 +104,7 @@ pub(crate) fn combine_lowest(
     ensures count { length made.new.items ≡ length columns.now }
     ensures long { Each made.new.items (λ column. length column ≡ length by.now) }
 {
-    let mut g = start;
+    let mut g = divisor_along(columns, pivot, shares, by, start);
     for k in 0..columns.len() {
         g = put_column(columns, k, pivot, shares, by, g, made)?;
     }

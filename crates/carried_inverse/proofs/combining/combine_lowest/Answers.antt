@@ -1,7 +1,7 @@
 use Rattle.std.proofs.Common.{rules, ◌≤◌, ◌+◌, refl, length, FitsSigned, to_z, to_z-of_z, arith}
 use Rattle.std.specs.Int.{w64}
 use Rattle.carried_inverse.specs.Exchanges.{combined}
-use Rattle.carried_inverse.proofs.DividedColumns.{divided_start, divided_then, divided_all}
+use Rattle.carried_inverse.proofs.DividedColumns.{divided_then, divided_all}
 use Rattle.carried_inverse.proofs.combining.combine_lowest.Goals as goal
 
 pub loop-k-init : goal.loop-k-init
@@ -9,8 +9,10 @@ unfolding combined
 loop-k-init c =
     let fs : FitsSigned w64 c.args.start = c.ranges.start in
     let fp : FitsSigned w64 c.args.pivot = c.ranges.pivot in
+    let fg : FitsSigned w64 c.divisor_along-g.result = search rules in
+    let d = simp to_z-of_z at c.divisor_along-g.ensures in
     simp to_z-of_z (record {
-      divided = divided_start 0 c.args.start c.args.pivot c.args.shares.now c.args.columns.now c.args.by.now c.args.made.now.items c.requires.positive refl;
+      divided = record { positive = d.positive; divides = d.divides; greatest = d.greatest; front = refl };
       count = c.requires.made_count;
       long = c.requires.made_long;
     })
