@@ -214,14 +214,14 @@ pub made_long : (n i : ℕ) (den : ℤ) (us : List ℤ) (columns made : List (Li
 made_long n i den us columns made over below count many long x =
     let fs = set x.shares i (at x.shares i -ℤ x.factor) in
     let l : length fs ≡ length columns = length-set x.shares i (at x.shares i -ℤ x.factor) ∙ ap length x.turned.all ∙ length-scale x.turned.sign us ∙ many ∙ sym count in
-    let e = sym x.combination ∙ x.columns in
+    let e = sym x.combination ∙ x.lowered.columns in
     let lb = each_at (λ x. length x ≡ n) columns i [] (omega (arith, below, count)) long in (
-      sym (length-map made (scale x.divisor)) ∙ ap length (sym e) ∙ length-combined (at x.shares i) fs columns (row_at columns i) l ∙ count,
-      each_unscaled n x.divisor made (subst (λ xs. Each xs (λ x. length x ≡ n)) e (each_combined n (at x.shares i) fs columns (row_at columns i) lb long)),
+      sym (length-map made (scale x.lowered.divisor)) ∙ ap length (sym e) ∙ length-combined (at x.shares i) fs columns (row_at columns i) l ∙ count,
+      each_unscaled n x.lowered.divisor made (subst (λ xs. Each xs (λ x. length x ≡ n)) e (each_combined n (at x.shares i) fs columns (row_at columns i) lb long)),
     )
 
 pub over_above : (i : ℕ) (den : ℤ) (us : List ℤ) (columns made : List (List ℤ)) (over : ℤ) → pos 0 <ℤ den → IsExchanged i den us columns over made → pos 0 <ℤ over
-over_above i den us columns made over p x = positive_other (den *ℤ at x.shares i) over x.divisor (mul_pos_ℤ den (at x.shares i) p x.turned.positive) x.positive x.denominator
+over_above i den us columns made over p x = positive_other (den *ℤ at x.shares i) over x.lowered.divisor (mul_pos_ℤ den (at x.shares i) p x.turned.positive) x.lowered.positive x.lowered.denominator
 
 -- the whole of it
 pub exchange_inverts : (n i : ℕ) (rows : List (List ℤ)) (old new : Inverse) (row us : List ℤ) → i < n → length rows ≡ n → us ≡ map (dot row) old.columns → IsExchanged i old.den us old.columns new.den new.columns
@@ -233,8 +233,8 @@ exchange_inverts n i rows old new row us below many are x h =
       count = l.0;
       long = l.1;
       positive = over_above i old.den us old.columns new.columns new.den h.positive x;
-      inverts = divided_inverts n (set rows i row) x.multiples new.columns (old.den *ℤ at x.shares i) new.den x.divisor x.positive x.columns x.denominator inv;
-      lowest = divided_lowest x.multiples new.columns (old.den *ℤ at x.shares i) new.den x.divisor x.positive x.greatest x.columns x.denominator;
+      inverts = divided_inverts n (set rows i row) x.multiples new.columns (old.den *ℤ at x.shares i) new.den x.lowered.divisor x.lowered.positive x.lowered.columns x.lowered.denominator inv;
+      lowest = x.lowered.lowest;
     }
 
 -- a row whose product with its column is zero

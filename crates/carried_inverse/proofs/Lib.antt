@@ -2,6 +2,8 @@ mod EntrySteps
 mod ColumnSteps
 mod Turning
 mod Exchanging
+mod Lowering
+pub mod CellMoves
 pub mod Rooms
 pub mod FromRows
 mod LowestRows

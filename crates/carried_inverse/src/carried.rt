@@ -13,12 +13,13 @@ ghost use Rattle.cayley.specs.Dependencies.{IsFurtherAt, nth_support};
 ghost use Rattle.inner_normal.specs.Inverses.{inverse_of};
 ghost use Rattle.reduced_rows.specs.CellRefusals.{IsEliminated};
 ghost use Rattle.carried_inverse.specs.Systems.{IsInverseOfCell};
-ghost use Rattle.carried_inverse.specs.Exchanges.{IsExchanged, HasExchangeRoom};
+ghost use Rattle.carried_inverse.specs.Exchanges.{IsExchanged, IsLowered, HasExchangeRoom};
 ghost use Rattle.carried_inverse.specs.Answers.{IsExchange, IsStep, IsFlip, HasPairSigns};
 
 use crate::beginning::{short, short_columns, zeros};
 use crate::columns::{
-    Column, combine_all, copy_columns, divide_all, divisor_of, greatest_of, products, turn,
+    Column, combine_all, combine_all_divided, copy_columns, divide_all, divisor_of, greatest_of,
+    products, turn,
 };
 use crate::entries::{greatest, is_short, less, quotient, size, times};
 use crate::falling::falls_of;
@@ -29,6 +30,7 @@ use inner_normal::MovingNormal;
 use reduced_rows::{FromFault, Reduced};
 use std::alloc::Global;
 use std::marker::Model;
+use std::mem;
 
 /// What an exchange of one row gives.
 #[derive(Debug, Clone, Copy, PartialEq, Eq)]
@@ -47,6 +49,8 @@ pub enum Exchange {
 pub struct Carried {
     den: i64,
     columns: Vec<Column>,
+    // Room for the columns of an exchange.
+    spare: Vec<Column>,
     // A bound on the absolute values of the denominator and all entries.
     most: u64,
     // Room for the products of a new row and the columns, and for a column.
@@ -66,7 +70,8 @@ impl Model for Carried {
 
     ghost invariant = { λ a. (pos 0 <ℤ a.den) × Each a.columns.items (λ column. length column ≡ length a.columns.items)
         × (length a.shares.items ≡ length a.columns.items) × (length a.kept.items ≡ length a.columns.items)
-        × (unsigned_abs a.den ≤ a.most) × Each a.columns.items (Within a.most) };
+        × (unsigned_abs a.den ≤ a.most) × Each a.columns.items (Within a.most)
+        × (length a.spare.items ≡ length a.columns.items) × Each a.spare.items (λ column. length column ≡ length a.columns.items) };
 }
 
 // Whether the bounds leave room for an exchange: `share` of the products, `most` of all else.
@@ -76,10 +81,22 @@ fn leaves_room(share: u64, most: u64) -> bool
     share < 1 << 61 && most < 1 << 61 && is_short(2 * share as u128 + most as u128, most as u128)
 }
 
-// The columns of the new rows, by the products of the new row and the old columns; gives their
+// Divides a denominator and all entries by their greatest common divisor; gives what is left of the
 // denominator.
+fn lower(columns: &mut Vec<Column>, den: i64) -> i64
+    requires { pos 0 <ℤ den }
+    ensures { IsLowered den columns.old.items result columns.new.items }
+{
+    let g = divisor_of(den, columns);
+    divide_all(columns, g);
+    quotient(den, g)
+}
+
+// The columns of the new rows, by the products of the new row and the old columns; gives their
+// denominator. The old denominator mostly divides the combinations.
 fn exchange_columns(
     columns: &mut Vec<Column>,
+    spare: &mut Vec<Column>,
     den: i64,
     place: usize,
     shares: &mut [i64],
@@ -89,20 +106,26 @@ fn exchange_columns(
     requires count { length shares.old ≡ length columns.old.items }
     requires kept { length kept.old ≡ length columns.old.items }
     requires long { Each columns.old.items (λ column. length column ≡ length columns.old.items) }
+    requires spare_count { length spare.old.items ≡ length columns.old.items }
+    requires spare_long { Each spare.old.items (λ column. length column ≡ length columns.old.items) }
     requires positive { pos 0 <ℤ den }
     requires other { at shares.old place ≢ pos 0 }
     requires room { HasExchangeRoom den shares.old columns.old.items }
     ensures exchanged { IsExchanged place den shares.old columns.old.items result columns.new.items }
+    ensures spare_count { length spare.new.items ≡ length columns.old.items }
+    ensures spare_long { Each spare.new.items (λ column. length column ≡ length columns.old.items) }
 {
     let factor = turn(shares, place, den);
     let pivot = shares[place];
     shares[place] = less(pivot, factor);
-    kept.copy_from_slice(columns[place].as_slice());
+    let by = columns[place].as_slice();
+    if combine_all_divided(columns, pivot, shares, by, den, spare) {
+        mem::swap(columns, spare);
+        return lower(columns, pivot);
+    }
+    kept.copy_from_slice(by);
     combine_all(columns, pivot, shares, kept);
-    let multiple = times(den, pivot);
-    let g = divisor_of(multiple, columns);
-    divide_all(columns, g);
-    quotient(multiple, g)
+    lower(columns, times(den, pivot))
 }
 
 fn bound_fits(n: usize, b: u64, most: u64) -> bool
@@ -128,6 +151,7 @@ enum Step {
 // One exchange of columns over `den`.
 fn exchange_step(
     columns: &mut Vec<Column>,
+    spare: &mut Vec<Column>,
     den: i64,
     most: u64,
     place: usize,
@@ -143,7 +167,11 @@ fn exchange_step(
     requires positive { pos 0 <ℤ den }
     requires den_most { unsigned_abs den ≤ most }
     requires most { Each columns.old.items (Within most) }
-    ensures { IsStep place den row.now columns.old.items columns.new.items result }
+    requires spare_count { length spare.old.items ≡ length columns.old.items }
+    requires spare_long { Each spare.old.items (λ column. length column ≡ length columns.old.items) }
+    ensures step { IsStep place den row.now columns.old.items columns.new.items result }
+    ensures spare_count { length spare.new.items ≡ length columns.old.items }
+    ensures spare_long { Each spare.new.items (λ column. length column ≡ length columns.old.items) }
 {
     if !is_short(size(row), most as u128) {
         return Step::TooLarge;
@@ -156,7 +184,7 @@ fn exchange_step(
         return Step::TooLarge;
     }
     Step::Made {
-        den: exchange_columns(columns, den, place, shares, kept),
+        den: exchange_columns(columns, spare, den, place, shares, kept),
     }
 }
 
@@ -177,12 +205,14 @@ impl Carried {
             return Err(FromFault::Overflow);
         };
         let most = greatest_of(den, &columns);
+        let spare = copy_columns(alloc, &columns)?;
         let shares = zeros(alloc, reduced.count())?;
         let kept = zeros(alloc, reduced.count())?;
         Ok(Carried {
             den,
             most,
             columns,
+            spare,
             shares,
             kept,
         })
@@ -193,12 +223,14 @@ impl Carried {
         ensures { IfOk result (λ a. a ≡ self.now) }
     {
         let columns = copy_columns(alloc, &self.columns)?;
+        let spare = copy_columns(alloc, &self.columns)?;
         let shares = zeros(alloc, self.columns.len())?;
         let kept = zeros(alloc, self.columns.len())?;
         Ok(Carried {
             den: self.den,
             most: self.most,
             columns,
+            spare,
             shares,
             kept,
         })
@@ -235,6 +267,7 @@ impl Carried {
     {
         match exchange_step(
             &mut self.columns,
+            &mut self.spare,
             self.den,
             self.most,
             place,

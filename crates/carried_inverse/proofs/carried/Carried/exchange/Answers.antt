@@ -15,7 +15,7 @@ invariant_of-self c =
     let fs : FitsSigned w64 c.self.inside.den = search rules in
     let i = c.self.invariant in
     let v = ap (λ (a : Inverse). length a.columns) c.self.view_is in
-    let h = simp to_z-of_z at c.in-Made.ensures in
+    let h = simp to_z-of_z at c.in-Made.ensures.step in
     let below : c.args.place < length c.self.inside.columns.items = let p = c.requires.place in omega (arith, p, v) in
     let l = made_long (length c.self.inside.columns.items) c.args.place c.self.inside.den (map (dot c.args.row.now) c.self.inside.columns.items) c.self.inside.columns.items c.exchange_step.new.columns.items c.in-Made.den
     below refl (length-map c.self.inside.columns.items (dot c.args.row.now)) i.1 h in
@@ -29,21 +29,23 @@ invariant_of-self c =
       k ∙ i.3 ∙ sym l.0,
       (simp to_z-of_z at c.greatest_of-self-inside.ensures.den),
       subst (λ (xs : List (List ℤ)). Each xs (Within c.greatest_of-self-inside.result)) c.deref.ensures.value c.greatest_of-self-inside.ensures.columns,
+      c.in-Made.ensures.spare_count ∙ sym l.0,
+      subst (λ n. Each c.exchange_step.new.spare.items (λ column. length column ≡ n)) (sym l.0) c.in-Made.ensures.spare_long,
     )
 
 pub invariant_of-self-in-Dependent : goal.invariant_of-self-in-Dependent
 invariant_of-self-in-Dependent c =
     let i = c.self.invariant in
-    let h = c.in-Dependent.ensures in
+    let h = c.in-Dependent.ensures.step in
     let s = written_long c.self.inside.shares.len c.exchange_step.new.shares c.self.inside.shares.items (sym c.deref_mut.ensures.len ∙ ap length c.deref_mut.ensures.value) (c.exchange_step.auto.shares ∙ ap length c.deref_mut.ensures.value) in
     let k = written_long c.self.inside.kept.len c.exchange_step.new.kept c.self.inside.kept.items (sym c.deref_mut-2.ensures.len ∙ ap length c.deref_mut-2.ensures.value) (c.exchange_step.auto.kept ∙ ap length c.deref_mut-2.ensures.value) in
-    rw h.0 (i.0, i.1, s ∙ i.2, k ∙ i.3, i.4, i.5)
+    rw h.0 (i.0, i.1, s ∙ i.2, k ∙ i.3, i.4, i.5, c.in-Dependent.ensures.spare_count, c.in-Dependent.ensures.spare_long)
 
 pub returns-in-Made : goal.returns-in-Made
 returns-in-Made c =
     let fd : FitsSigned w64 c.in-Made.den = search rules in
     let fs : FitsSigned w64 c.self.inside.den = search rules in
-    let h = simp to_z-of_z at c.in-Made.ensures in
+    let h = simp to_z-of_z at c.in-Made.ensures.step in
     let v = ap (λ (a : Inverse). length a.columns) c.self.view_is in
     let below : c.args.place < length c.self.inside.columns.items = let p = c.requires.place in omega (arith, p, v) in
     let old : Inverse = record { den = c.self.inside.den; columns = c.self.inside.columns.items } in
@@ -55,7 +57,7 @@ returns-in-Made c =
 
 pub returns-in-Dependent : goal.returns-in-Dependent
 returns-in-Dependent c =
-    let h = c.in-Dependent.ensures in
+    let h = c.in-Dependent.ensures.step in
     let v = ap (λ (a : Inverse). length a.columns) c.self.view_is in
     let below : c.args.place < length c.self.inside.columns.items = let p = c.requires.place in omega (arith, p, v) in
     let old : Inverse = record { den = c.self.inside.den; columns = c.self.inside.columns.items } in (

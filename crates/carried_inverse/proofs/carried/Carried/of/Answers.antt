@@ -19,7 +19,17 @@ invariant_of-result c =
     let w = subst (λ (xs : List (List ℤ)). Each xs (λ x. length x ≡ length c.args.reduced.now)) (sym i) (columns_long n (n + 2) (unsigned_abs c.in-Some.den) c.args.reduced.now) in
     let s : length c.in_ok-shares.shares.items ≡ length c.args.reduced.now = search rules in
     let k : length c.in_ok-kept.kept.items ≡ length c.args.reduced.now = search rules in
-    simp to_z-of_z (rw e c.in-Some.ensures.positive, subst (λ m. Each c.in_ok-columns.columns.items (λ x. length x ≡ m)) (sym l) w, s ∙ sym l, k ∙ sym l, (simp to_z-of_z at c.greatest_of-most.ensures.den), subst (λ (xs : List (List ℤ)). Each xs (Within c.greatest_of-most.result)) c.deref.ensures.value c.greatest_of-most.ensures.columns)
+    let t : c.in_ok-spare.spare.items ≡ c.in_ok-columns.columns.items = c.in_ok-spare.ensures ∙ c.deref-2.ensures.value in
+    simp to_z-of_z (
+      rw e c.in-Some.ensures.positive,
+      subst (λ m. Each c.in_ok-columns.columns.items (λ x. length x ≡ m)) (sym l) w,
+      s ∙ sym l,
+      k ∙ sym l,
+      (simp to_z-of_z at c.greatest_of-most.ensures.den),
+      subst (λ (xs : List (List ℤ)). Each xs (Within c.greatest_of-most.result)) c.deref.ensures.value c.greatest_of-most.ensures.columns,
+      ap length t,
+      subst (λ (xs : List (List ℤ)). Each xs (λ x. length x ≡ length c.in_ok-columns.columns.items)) (sym t) (subst (λ m. Each c.in_ok-columns.columns.items (λ x. length x ≡ m)) (sym l) w),
+    )
 
 pub returns-clause-inverse : goal.returns-clause-inverse
 returns-clause-inverse c =
