@@ -3,6 +3,7 @@ mod ColumnSteps
 mod Turning
 mod Exchanging
 mod Lowering
+mod DividedColumns
 pub mod CellMoves
 pub mod Rooms
 pub mod FromRows

@@ -18,9 +18,9 @@ ghost use Rattle.carried_inverse.specs.Answers.{IsExchange, IsStep, IsFlip, HasP
 
 use crate::beginning::{short, short_columns, zeros};
 use crate::columns::{
-    Column, combine_all, combine_all_divided, copy_columns, divide_all, divisor_of, greatest_of,
-    products, turn,
+    Column, combine_all, copy_columns, divide_all, divisor_of, greatest_of, products, turn,
 };
+use crate::combining::combine_lowest;
 use crate::entries::{greatest, is_short, less, quotient, size, times};
 use crate::falling::falls_of;
 use crate::flips::{first_of, point_of, product_within, put_differences, signs_of};
@@ -93,7 +93,7 @@ fn lower(columns: &mut Vec<Column>, den: i64) -> i64
 }
 
 // The columns of the new rows, by the products of the new row and the old columns; gives their
-// denominator. The old denominator mostly divides the combinations.
+// denominator. Their divisor is found on the way.
 fn exchange_columns(
     columns: &mut Vec<Column>,
     spare: &mut Vec<Column>,
@@ -117,15 +117,17 @@ fn exchange_columns(
 {
     let factor = turn(shares, place, den);
     let pivot = shares[place];
-    shares[place] = less(pivot, factor);
+    let share = less(pivot, factor);
+    shares[place] = share;
+    let multiple = times(den, pivot);
     let by = columns[place].as_slice();
-    if combine_all_divided(columns, pivot, shares, by, den, spare) {
+    if let Some(g) = combine_lowest(columns, pivot, shares, by, multiple, spare) {
         mem::swap(columns, spare);
-        return lower(columns, pivot);
+        return quotient(multiple, g);
     }
-    kept.copy_from_slice(by);
+    kept.copy_from_slice(columns[place].as_slice());
     combine_all(columns, pivot, shares, kept);
-    lower(columns, times(den, pivot))
+    lower(columns, multiple)
 }
 
 fn bound_fits(n: usize, b: u64, most: u64) -> bool
