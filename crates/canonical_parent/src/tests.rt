@@ -46,25 +46,20 @@ fn a_cell_that_splits_keeps_both(rt: HostRuntime) {
     }
 }
 
-// Whether the cell of one pair is the least where this point is level.
-fn leads(alloc: Global, pair: (u32, u32), a: Sign, b: Sign) -> Option<(bool, bool)> {
-    let cell = Cell::new(alloc, &[pair])?;
+// Whether the cell 2 4 is the least where point 3 and where point 5 is level.
+fn two_four(alloc: Global, a: Sign, b: Sign) -> Option<(bool, bool)> {
+    let cell = Cell::new(alloc, &[(2, 4)])?;
     let signs = Signs::new(a, b)?;
     Some((is_least(&cell, 1, 3, &signs), is_least(&cell, 1, 5, &signs)))
 }
 
 #[test]
 fn the_least_of_two_cells(rt: HostRuntime) {
-    assert_eq!(rt;
-        leads(rt.alloc(), (2, 4), Sign::Minus, Sign::Minus),
-        Some((true, true))
-    );
-    assert_eq!(rt;
-        leads(rt.alloc(), (2, 4), Sign::Minus, Sign::Plus),
-        Some((false, true))
-    );
-    assert_eq!(rt;
-        leads(rt.alloc(), (2, 4), Sign::Plus, Sign::Minus),
-        Some((true, true))
-    );
+    for (a, b, want) in [
+        (Sign::Minus, Sign::Minus, (true, true)),
+        (Sign::Minus, Sign::Plus, (false, true)),
+        (Sign::Plus, Sign::Minus, (true, true)),
+    ] {
+        assert_eq!(rt; two_four(rt.alloc(), a, b), Some(want));
+    }
 }

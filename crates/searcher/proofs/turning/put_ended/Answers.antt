@@ -1,12 +1,8 @@
-use Rattle.std.proofs.Common.{◌∙◌, refl, sym, ap, subst}
-use Rattle.std.specs.Prelude.{Some}
-use Rattle.cayley.specs.Cells.{Cell}
+use Rattle.std.proofs.Common.{refl, sym, subst}
 use Rattle.cayley.specs.Shares.{IsChildren}
 use Rattle.searcher.specs.declared.expansions.Expansion.TheVariants.{Inner}
-use Rattle.searcher.specs.declared.expansions.HaltCause.TheVariants as cause
 use Rattle.searcher.specs.Branches.{branches_of, children_of}
 use Rattle.cone_walls.specs.Fronts.{place_by}
-use Rattle.searcher.specs.Expansions.{IsCause}
 use Rattle.searcher.specs.Workings.{FitsWorking}
 use Rattle.searcher.proofs.MadeEnds.{IsAtPoint, IsAtWall, at_point, at_wall, at_inner, at_no_end, at_tie, ends_never, ends_one, ends_two}
 use Rattle.searcher.proofs.TurnAnswers.{mixed_turned}
