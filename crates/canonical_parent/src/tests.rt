@@ -1,4 +1,4 @@
-use crate::keeps;
+use crate::{is_least, keeps};
 use cayley::{Cell, Sign};
 use flip_rule::Signs;
 use std::alloc::Global;
@@ -44,4 +44,27 @@ fn a_cell_that_splits_keeps_both(rt: HostRuntime) {
             Some(want)
         );
     }
+}
+
+// Whether the cell of one pair is the least where this point is level.
+fn leads(alloc: Global, pair: (u32, u32), a: Sign, b: Sign) -> Option<(bool, bool)> {
+    let cell = Cell::new(alloc, &[pair])?;
+    let signs = Signs::new(a, b)?;
+    Some((is_least(&cell, 1, 3, &signs), is_least(&cell, 1, 5, &signs)))
+}
+
+#[test]
+fn the_least_of_two_cells(rt: HostRuntime) {
+    assert_eq!(rt;
+        leads(rt.alloc(), (2, 4), Sign::Minus, Sign::Minus),
+        Some((true, true))
+    );
+    assert_eq!(rt;
+        leads(rt.alloc(), (2, 4), Sign::Minus, Sign::Plus),
+        Some((false, true))
+    );
+    assert_eq!(rt;
+        leads(rt.alloc(), (2, 4), Sign::Plus, Sign::Minus),
+        Some((true, true))
+    );
 }

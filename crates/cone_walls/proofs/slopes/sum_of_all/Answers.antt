@@ -1,7 +1,7 @@
 use Rattle.std.proofs.Common.{rules, ◌∙◌, FitsSigned, to_z, to_z-of_z}
 use Rattle.std.specs.Int.{w64}
 use Rattle.cone_walls.proofs.Drifts.{sum_end}
-use Rattle.cone_walls.proofs.slopes.sum_along.Goals as goal
+use Rattle.cone_walls.proofs.slopes.sum_of_all.Goals as goal
 
 pub loop-i-preserved : goal.loop-i-preserved
 loop-i-preserved c =

@@ -1,7 +1,7 @@
 use Rattle.std.proofs.Common.{◌≡◌, drop, ◌+ℤ◌, ◌^◌}
 use Rattle.int_vectors.specs.Vectors.{dot}
 use Rattle.int_vectors.specs.Bounds.{Room}
-use Rattle.cone_walls.proofs.slopes.sum_along.Given as goal
+use Rattle.cone_walls.proofs.slopes.sum_of_all.Given as goal
 
 abbrev pub invariant-loop-i : goal.invariant-loop-i
 invariant-loop-i l = record {
