@@ -4,7 +4,7 @@ use Rattle.reduced_rows.specs.Steps.{FitsCleanedAll}
 use Rattle.int_vectors.proofs.InPlace.{map_read, map_set}
 use Rattle.reduced_rows.proofs.Picking.{each_at}
 use Rattle.reduced_rows.proofs.CleaningAll.{all_more, all_at}
-use Rattle.reduced_rows.proofs.elimination.clean_all.Goals as goal
+use Rattle.reduced_rows.proofs.stepping.clean_all.Goals as goal
 
 pub loop-i-init : goal.loop-i-init
 unfolding FitsCleanedAll

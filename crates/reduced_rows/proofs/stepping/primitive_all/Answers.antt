@@ -1,7 +1,7 @@
 use Rattle.std.proofs.Common.{◌<◌, ◌∙◌, length, ap, arith}
 use Rattle.int_vectors.specs.Contents.{primitive}
 use Rattle.int_vectors.proofs.InPlace.{map_read, map_set}
-use Rattle.reduced_rows.proofs.elimination.primitive_all.Goals as goal
+use Rattle.reduced_rows.proofs.stepping.primitive_all.Goals as goal
 
 pub loop-i-preserved : goal.loop-i-preserved
 loop-i-preserved c =

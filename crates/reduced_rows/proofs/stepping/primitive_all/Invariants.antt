@@ -1,6 +1,6 @@
 use Rattle.std.proofs.Common.{◌≡◌, take, drop, map, ◌++◌, length}
 use Rattle.int_vectors.specs.Contents.{primitive}
-use Rattle.reduced_rows.proofs.elimination.primitive_all.Given as goal
+use Rattle.reduced_rows.proofs.stepping.primitive_all.Given as goal
 
 abbrev pub invariant-loop-i : goal.invariant-loop-i
 invariant-loop-i l = record {

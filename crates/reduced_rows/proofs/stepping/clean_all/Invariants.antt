@@ -1,7 +1,7 @@
 use Rattle.std.proofs.Common.{◌≡◌, take, drop, map, ◌++◌, length}
 use Rattle.int_vectors.specs.RowSteps.{cleaned}
 use Rattle.reduced_rows.specs.Steps.{FitsCleanedAll}
-use Rattle.reduced_rows.proofs.elimination.clean_all.Given as goal
+use Rattle.reduced_rows.proofs.stepping.clean_all.Given as goal
 
 abbrev pub invariant-loop-i : goal.invariant-loop-i
 invariant-loop-i l = record {

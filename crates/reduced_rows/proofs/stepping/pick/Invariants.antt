@@ -1,6 +1,6 @@
 use Rattle.std.proofs.Common.{◌≡◌, length, take}
 use Rattle.reduced_rows.proofs.Picking.{ZeroAt}
-use Rattle.reduced_rows.proofs.elimination.pick.Given as goal
+use Rattle.reduced_rows.proofs.stepping.pick.Given as goal
 
 abbrev pub invariant-loop-i : goal.invariant-loop-i
 invariant-loop-i l = record {

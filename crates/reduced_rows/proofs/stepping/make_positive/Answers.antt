@@ -3,7 +3,7 @@ use Rattle.std.specs.Int.{w128}
 use Rattle.std.proofs.lemmas.Int.{ints}
 use Rattle.int_vectors.specs.Vectors.{at}
 use Rattle.reduced_rows.proofs.CleaningAll.{signed_negative, signed_positive}
-use Rattle.reduced_rows.proofs.elimination.make_positive.Goals as goal
+use Rattle.reduced_rows.proofs.stepping.make_positive.Goals as goal
 
 pub returns-then-get-lt0 : goal.returns-then-get-lt0
 returns-then-get-lt0 c =

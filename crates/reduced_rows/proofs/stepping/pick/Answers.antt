@@ -4,7 +4,7 @@ use Rattle.std.specs.List.{swap, remove}
 use Rattle.int_vectors.specs.Vectors.{at}
 use Rattle.wide_int.proofs.Signed.{is_zero, not_zero}
 use Rattle.reduced_rows.proofs.Picking.{each_at, zero_more, pick_found, pick_none, swap_front, any_default}
-use Rattle.reduced_rows.proofs.elimination.pick.Goals as goal
+use Rattle.reduced_rows.proofs.stepping.pick.Goals as goal
 
 pub get-requires : goal.get-requires
 get-requires c =

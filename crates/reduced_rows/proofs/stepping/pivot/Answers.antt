@@ -1,6 +1,6 @@
 use Rattle.std.proofs.Common.{arith}
 use Rattle.reduced_rows.proofs.Picking.{picked_long}
-use Rattle.reduced_rows.proofs.elimination.pivot.Goals as goal
+use Rattle.reduced_rows.proofs.stepping.pivot.Goals as goal
 
 pub make_positive-requires : goal.make_positive-requires
 make_positive-requires c =
