@@ -28,4 +28,6 @@ pub use table_update::Kept;
 pub use walls::{Walls, walls_of};
 
 #[cfg(test)]
+mod kept_tests;
+#[cfg(test)]
 mod tests;

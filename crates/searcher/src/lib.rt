@@ -35,6 +35,8 @@ pub use walks::Walk;
 #[cfg(test)]
 mod search_tests;
 #[cfg(test)]
+mod table_tests;
+#[cfg(test)]
 mod tests;
 #[cfg(test)]
 mod walk_tests;
