@@ -2,6 +2,7 @@
 #![tactic(auto)]
 
 mod kept;
+mod states;
 mod table;
 
 pub use kept::Kept;

@@ -4,9 +4,11 @@ ghost use Rattle.reduced_rows.specs.Spans.{IsReducedOf};
 ghost use Rattle.reduced_rows.specs.Steps.{OfLength, elimination, FitsElimination};
 ghost use Rattle.table_update.specs.Answers.{reduced_of};
 ghost use Rattle.table_update.specs.Exchanges.{with_row};
+ghost use Rattle.table_update.specs.States.{HasSteps, AreStates};
 
+use crate::states::State;
 use int_vectors::IntVec;
-use reduced_rows::{ReduceFault, Reduced};
+use reduced_rows::{ReduceFault, Reduced, copy_rows};
 use std::alloc::Global;
 use std::marker::Model;
 
@@ -15,20 +17,99 @@ use std::marker::Model;
 #[derive(Drop)]
 pub struct Table {
     rows: Vec<IntVec>,
+    states: Vec<State>,
     reduced: Reduced,
 }
 
 impl Model for Table {
-    ghost use Rattle.std.specs.Prelude.{[], ◌≡◌, ◌≤◌, ℕ, Ok, length};
-    ghost use Rattle.reduced_rows.specs.Steps.{OfLength, elimination, FitsElimination};
-    ghost use Rattle.reduced_rows.specs.Spans.{IsReducedOf};
-    ghost use Rattle.table_update.specs.States.{Elimination};
+    ghost use Rattle.table_update.specs.States.{Elimination, IsElimination};
 
     ghost Value = { Elimination };
 
-    ghost view = { λ a. record { rows = a.rows.items; states = []; reduced = a.reduced } };
+    ghost view = { λ a. record { rows = a.rows.items; states = a.states.items; reduced = a.reduced } };
 
-    ghost invariant = { λ a. ((n : ℕ) × (length a.rows.items ≤ n) × OfLength n a.rows.items) × FitsElimination (length a.rows.items) a.rows.items × (elimination (length a.rows.items) a.rows.items ≡ Ok a.reduced) × IsReducedOf (length a.rows.items) a.rows.items a.reduced };
+    ghost invariant = { λ a. IsElimination (record { rows = a.rows.items; states = a.states.items; reduced = a.reduced }) };
+}
+
+// The table of the rows. The states up to that after `from` steps stand already; the later ones are
+// made, each from the one before it.
+fn finish(
+    alloc: Global,
+    rows: Vec<IntVec>,
+    mut states: Vec<State>,
+    from: usize,
+) -> Result<Table, ReduceFault>
+    requires lengths { (n : ℕ) × (length rows.items ≤ n) × OfLength n rows.items }
+    requires from { from ≤ length rows.items }
+    requires count { from < length states.items }
+    requires steps { HasSteps from rows.items }
+    requires states { AreStates from rows.items states.items }
+    ensures { MatchResult result
+        (λ table. (table.rows ≡ rows.items) × FitsElimination (length rows.items) rows.items × (elimination (length rows.items) rows.items ≡ Ok table.reduced))
+        (IsFault (length rows.items) rows.items) }
+{
+    let columns = rows.len();
+    states.truncate(from + 1);
+    for k in from..columns {
+        let state = match states[k].next(alloc, k, columns - k - 1) {
+            Ok(state) => state,
+            Err(fault) => return Err(fault),
+        };
+        states.push(state)?;
+    }
+    let reduced = Reduced::new(copy_rows(alloc, states[columns].done())?);
+    Ok(Table {
+        rows,
+        states,
+        reduced,
+    })
+}
+
+// The first state, and all others from it.
+fn made(alloc: Global, rows: Vec<IntVec>) -> Result<Table, ReduceFault>
+    requires { (n : ℕ) × (length rows.items ≤ n) × OfLength n rows.items }
+    ensures { MatchResult result
+        (λ table. (table.rows ≡ rows.items) × FitsElimination (length rows.items) rows.items × (elimination (length rows.items) rows.items ≡ Ok table.reduced))
+        (IsFault (length rows.items) rows.items) }
+{
+    let mut states = Vec::new(alloc);
+    let first = State::start(alloc, &rows)?;
+    states.push(first)?;
+    finish(alloc, rows, states, 0)
+}
+
+// The new row is taken through the states by the pivot rows that stand there, up to the step that
+// picks it or the old one; from there on all is done afresh.
+fn exchanged(alloc: Global, table: Table, place: usize, row: IntVec) -> Result<Table, ReduceFault>
+    requires first { 1 ≤ place }
+    requires last { place ≤ length table.rows }
+    requires length { length row ≡ length (slice_index_or table.rows (place - 1) []) }
+    ensures { let rows = with_row place row table.rows in MatchResult result
+        (λ made. (made.rows ≡ rows) × FitsElimination (length rows) rows × (elimination (length rows) rows ≡ Ok made.reduced))
+        (IsFault (length rows) rows) }
+{
+    let Table {
+        mut rows,
+        mut states,
+        ..
+    } = table;
+    let mut now = row.copy(alloc)?;
+    now.primitive();
+    let mut at = place - 1;
+    rows[at] = row;
+    let mut k = 0;
+    while let Some(to) = states[k].place_after(k, at, &now) {
+        let mut passed = now.copy(alloc)?;
+        if !states[k + 1].clear(&mut passed, k) {
+            return Err(ReduceFault::Overflow);
+        }
+        states[k].put(at, now);
+        now = passed;
+        at = to;
+        k += 1;
+    }
+    states[k].put(at, now);
+    finish(alloc, rows, states, k)
 }
 
 impl Table {
@@ -49,9 +130,7 @@ impl Table {
             (λ table. FitsElimination (length rows.items) rows.items × (elimination (length rows.items) rows.items ≡ Ok table.reduced))
             (IsFault (length rows.items) rows.items) }
     {
-        let _ = alloc;
-        drop(rows);
-        Err(ReduceFault::OutOfMemory)
+        made(alloc, rows)
     }
 
     /// The rows in order.
@@ -91,9 +170,8 @@ impl Table {
             (λ table. FitsElimination (length rows) rows × (elimination (length rows) rows ≡ Ok table.reduced))
             (IsFault (length rows) rows) }
     {
-        let _ = alloc;
-        let _ = place;
-        drop(row);
-        Err(ReduceFault::OutOfMemory)
+        // The rows are of one length by the type, as its field tells.
+        let _ = &self.rows;
+        exchanged(alloc, self, place, row)
     }
 }
