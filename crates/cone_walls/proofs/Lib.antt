@@ -19,3 +19,4 @@ mod Drifts
 mod CellLines
 mod PassingLines
 mod RestingLines
+mod DifferentRows

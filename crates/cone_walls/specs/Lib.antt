@@ -12,3 +12,4 @@ pub mod NarrowLines
 pub mod Fronts
 pub mod Ends
 pub mod Rests
+pub mod Differences

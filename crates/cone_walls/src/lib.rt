@@ -5,6 +5,7 @@
 mod endings;
 mod fines;
 mod fronts;
+mod kept;
 mod lines;
 mod passing;
 mod rests;
@@ -19,10 +20,14 @@ pub use endings::{End, end_of, ending_front, place_of, time_of};
 pub use fines::refine_all;
 pub use fronts::{Fall, Front};
 pub use inner_normal::MovingNormal;
+pub use kept::walls_from;
 pub use lines::lines_of;
 pub use reduced_rows::{CellFault, Reduced};
 pub use steps::Steps;
+pub use table_update::Kept;
 pub use walls::{Walls, walls_of};
 
+#[cfg(test)]
+mod kept_tests;
 #[cfg(test)]
 mod tests;

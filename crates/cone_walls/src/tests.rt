@@ -48,7 +48,7 @@ fn support(alloc: Global, given: &[(&[i128], i64, i64)], file: u32) -> Result<Su
     Ok(Support { points, file })
 }
 
-fn squares(alloc: Global) -> Result<Problem, Fail>
+pub(crate) fn squares(alloc: Global) -> Result<Problem, Fail>
     ensures { IfOk result (λ p. p.version ≡ version1) }
 {
     let mut supports = Vec::new(alloc);

@@ -42,7 +42,7 @@ pub struct Walls {
 }
 
 // The walls of a cell that was eliminated.
-fn walls_within(
+pub(crate) fn walls_within(
     alloc: Global,
     problem: &Problem,
     cell: &Cell,

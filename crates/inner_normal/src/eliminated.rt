@@ -10,7 +10,7 @@ ghost use Rattle.reduced_rows.specs.Refusals.{IsFromFault};
 ghost use Rattle.reduced_rows.specs.Steps.{FitsElimination};
 ghost use Rattle.inner_normal.specs.Inverses.{inverse_of, FitsInverse};
 ghost use Rattle.inner_normal.specs.MovingNormals.{IsMovingNormal};
-ghost use Rattle.inner_normal.specs.Workings.{FitsNormal, IsNormalFrom};
+ghost use Rattle.inner_normal.specs.Workings.{HaveWidths, FitsNormal, IsNormalFrom};
 
 use crate::inverses::ScaledInverse;
 use crate::moving::MovingNormal;
@@ -48,8 +48,7 @@ fn eliminate(alloc: Global, problem: &Problem, cell: &Cell) -> Result<Eliminated
 {
     let rows = problem.edge_rows(alloc, cell)?;
     let reduced = reduce(alloc, rows, problem.dim())?;
-    let den = reduced.denominator();
-    Ok(Eliminated { reduced, den })
+    Ok(Eliminated::from_reduced(reduced))
 }
 
 impl Eliminated {
@@ -75,6 +74,15 @@ impl Eliminated {
         // A problem is valid by its type, as its readers tell.
         let _dim = problem.dim();
         eliminate(alloc, problem, cell)
+    }
+
+    /// Of n reduced rows of 2n + 2 numbers, as `reduce` gives them of a cell's rows.
+    pub fn from_reduced(reduced: Reduced) -> Eliminated
+        requires { HaveWidths reduced }
+        ensures { result ≡ reduced }
+    {
+        let den = reduced.denominator();
+        Eliminated { reduced, den }
     }
 
     /// The reduced rows.

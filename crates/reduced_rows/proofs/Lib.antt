@@ -1,4 +1,4 @@
-mod Answered
+pub mod Answered
 mod Carrying
 pub mod CleaningAll
 pub mod Combinations

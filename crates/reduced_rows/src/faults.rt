@@ -65,6 +65,17 @@ impl<T: Drop> From<AllocFailed<T>> for ReduceFault {
     }
 }
 
+impl From<OutOfMemory> for ReduceFault {
+    ghost use Rattle.reduced_rows.specs.declared.faults.ReduceFault.TheVariants.{OutOfMemory as no_memory};
+    ghost use Rattle.std.specs.Prelude.{◌≡◌};
+
+    ghost from_gives = { λ _ e. e ≡ no_memory };
+
+    fn from(_fault: OutOfMemory) -> ReduceFault {
+        ReduceFault::OutOfMemory
+    }
+}
+
 impl From<OutOfMemory> for CellFault {
     ghost use Rattle.reduced_rows.specs.declared.faults.CellFault.TheVariants.{OutOfMemory as no_memory};
     ghost use Rattle.std.specs.Prelude.{◌≡◌};

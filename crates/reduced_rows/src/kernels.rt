@@ -32,8 +32,9 @@ fn kernel(
     Ok(Some(IntVec::from_vec(entries)))
 }
 
-// The refusal of dependent rows.
-pub(crate) fn dependent(alloc: Global, done: &[IntVec], k: usize, more: usize) -> ReduceFault
+/// The refusal of dependent rows, where `done` are the first `k` rows and column `k`, counted from 0,
+/// has no further pivot: the kernel, of length `k + 1 + more`, or what stands against it.
+pub fn dependent(alloc: Global, done: &[IntVec], k: usize, more: usize) -> ReduceFault
     requires pivots { HavePivots 0 done.now }
     requires lengths { Each done.now (λ row. k < length row) }
     ensures { IsKernelFault k more done.now result }

@@ -7,11 +7,13 @@ mod faults;
 mod kernels;
 mod laws;
 mod reduced;
+pub mod stepping;
 
 pub use elimination::reduce;
 pub use faults::{CellFault, FromFault, ReduceFault};
+pub use kernels::dependent;
 pub use laws::{column_solves, inverse_columns, least_den, span_carries};
-pub use reduced::Reduced;
+pub use reduced::{Reduced, copy_rows};
 
 #[cfg(test)]
 mod tests;

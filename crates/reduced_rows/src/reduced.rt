@@ -28,7 +28,8 @@ impl Model for Reduced {
     ghost invariant = { λ a. HaveForm a.rows.items };
 }
 
-fn copy_rows(alloc: Global, rows: &[IntVec]) -> Result<Vec<IntVec>, OutOfMemory>
+/// Equal rows.
+pub fn copy_rows(alloc: Global, rows: &[IntVec]) -> Result<Vec<IntVec>, OutOfMemory>
     ensures { IfOk result (λ v. v.items ≡ rows.now) }
 {
     let Ok(mut copied) = Vec::with_capacity(alloc, rows.len()) else {
@@ -46,7 +47,8 @@ fn copy_rows(alloc: Global, rows: &[IntVec]) -> Result<Vec<IntVec>, OutOfMemory>
 }
 
 impl Reduced {
-    pub(crate) fn new(rows: Vec<IntVec>) -> Reduced
+    /// Rows that have this form already; takes no memory.
+    pub fn new(rows: Vec<IntVec>) -> Reduced
         requires { HaveForm rows.items }
         ensures { result ≡ rows.items }
     {

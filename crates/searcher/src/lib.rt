@@ -14,6 +14,7 @@ mod lasts;
 mod passing;
 mod searching;
 mod settling;
+mod tables;
 mod targets;
 mod ties;
 mod turning;
@@ -22,15 +23,19 @@ mod walks;
 pub use branches::Branch;
 pub use cayley::{Begin, FoundCell};
 pub use children::kept_by;
+pub use cone_walls::Kept;
 pub use counting::{Counted, count_alone};
 pub use expansions::{Children, Expansion, Halt, HaltCause, expand};
 pub use passing::pass_until;
 pub use searching::{Found, Stopped, search_alone};
+pub use tables::expand_kept;
 pub use targets::has_file_points;
 pub use walks::Walk;
 
 #[cfg(test)]
 mod search_tests;
+#[cfg(test)]
+mod table_tests;
 #[cfg(test)]
 mod tests;
 #[cfg(test)]

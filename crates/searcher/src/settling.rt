@@ -85,7 +85,7 @@ fn ended(
 }
 
 // What a branch of a cell is expanded to, by the walls of the cell.
-fn settled(
+pub(crate) fn settled(
     alloc: Global,
     problem: &Problem,
     branch: &Branch,

@@ -19,11 +19,11 @@ use crate::expansions::{Expansion, HaltCause};
 use crate::keeping::put_children_by;
 use crate::lasts::{Last, reach};
 use crate::searching::put_children;
-use crate::settling::expanded;
+use crate::tables::expanded_kept;
 use crate::targets::mixed;
 use crate::walks::{Walk, lesser};
 use cayley::{FoundCell, Problem};
-use cone_walls::{Fall, Front, Steps, time_of};
+use cone_walls::{Fall, Front, Kept, Steps, time_of};
 use inner_normal::MovingNormal;
 use std::alloc::Global;
 use std::mem;
@@ -46,12 +46,13 @@ pub(crate) fn put_opened(left: &mut Vec<Branch>, expansion: Expansion) -> Option
     }
 }
 
-// A turn by an elimination, as a given branch needs it.
+// A turn by an elimination, as a given branch needs it. It begins from the table that is kept.
 #[inline(never)]
 fn plain_turn<L: Ledger>(
     alloc: Global,
     problem: &Problem,
     branch: &Branch,
+    kept: &mut Kept,
     left: &mut Vec<Branch>,
     steps: &mut Steps<L>,
 ) -> Result<Option<FoundCell>, HaltCause>
@@ -62,7 +63,7 @@ fn plain_turn<L: Ledger>(
     ensures step { IsOf problem.now branch.now.cell → steps.new ≡ steps.old + 1 }
     ensures no_step { ¬ (IsOf problem.now branch.now.cell) → steps.new ≡ steps.old }
 {
-    match expanded(alloc, problem, branch, steps) {
+    match expanded_kept(alloc, problem, branch, kept, steps) {
         Ok(Some(expansion)) => Ok(put_opened(left, expansion)),
         Ok(None) => Ok(None),
         Err(cause) => Err(cause),
@@ -133,6 +134,7 @@ fn carried_turn<L: Ledger>(
     problem: &Problem,
     branch: &Branch,
     last: &mut Option<Last>,
+    kept: &mut Kept,
     left: &mut Vec<Branch>,
     steps: &mut Steps<L>,
 ) -> Result<Option<FoundCell>, HaltCause>
@@ -147,10 +149,10 @@ fn carried_turn<L: Ledger>(
     ensures step { IsOf problem.now branch.now.cell → steps.new ≡ steps.old + 1 }
 {
     let Some(reached) = reach(alloc, problem, branch.cell(), mem::replace(last, None)) else {
-        return plain_turn(alloc, problem, branch, left, steps);
+        return plain_turn(alloc, problem, branch, kept, left, steps);
     };
     let Some(sought) = seek(alloc, problem, &reached, steps) else {
-        return plain_turn(alloc, problem, branch, left, steps);
+        return plain_turn(alloc, problem, branch, kept, left, steps);
     };
     let normal = sought.normal;
     let answer = put_ended(
@@ -193,9 +195,17 @@ fn answer_turn<L: Ledger>(
     let made = walk.given <= count;
     walk.given = lesser(walk.given, count);
     if made && walk.carries {
-        carried_turn(alloc, problem, branch, &mut walk.last, left, steps)
+        carried_turn(
+            alloc,
+            problem,
+            branch,
+            &mut walk.last,
+            &mut walk.kept,
+            left,
+            steps,
+        )
     } else {
-        plain_turn(alloc, problem, branch, left, steps)
+        plain_turn(alloc, problem, branch, &mut walk.kept, left, steps)
     }
 }
 

@@ -15,7 +15,7 @@ use wide_int::OutOfMemory;
 
 // The supports of three axes, each with corners at this reach. The ranges of
 // coordinates are twice the reach, so that 2^20 - 1 is the greatest whose working fits for sure.
-fn axes(alloc: Global, reach: i128) -> Result<Vec<Support>, Fail> {
+pub(crate) fn axes(alloc: Global, reach: i128) -> Result<Vec<Support>, Fail> {
     let far = if reach < 1_000_000 { reach } else { 1_000_000 };
     let mut supports = Vec::new(alloc);
     let first: [(&[i128], i64, i64); 7] = [
@@ -85,14 +85,14 @@ fn expanded<L: Ledger>(
     Ok(Found { cells, solves })
 }
 
-fn plain(alloc: Global, problem: &Problem, start: Branch) -> Result<Found, Fail> {
+pub(crate) fn plain(alloc: Global, problem: &Problem, start: Branch) -> Result<Found, Fail> {
     if !problem.is_still() {
         return Err(OutOfMemory.into());
     }
     expanded::<Brand>(alloc, problem, start, Blank::new(1))
 }
 
-fn start(alloc: Global) -> Result<Branch, Fail> {
+pub(crate) fn start(alloc: Global) -> Result<Branch, Fail> {
     branch(alloc, &[(4, 5), (4, 6), (4, 7)], Begin::Start)
 }
 

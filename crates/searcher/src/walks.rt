@@ -7,11 +7,12 @@ ghost use Rattle.searcher.specs.Walks.{IsCarried, IsLast, IsMade, IsWalk};
 
 use crate::branches::Branch;
 use crate::endings::{ended_by, seek};
-use crate::expansions::{Expansion, Halt, expand};
+use crate::expansions::{Expansion, Halt};
 use crate::lasts::{Last, reach};
+use crate::tables::expand_kept;
 use cayley::Problem;
 use cell_bound::every_cell_fits;
-use cone_walls::Steps;
+use cone_walls::{Kept, Steps};
 use std::alloc::Global;
 use std::mem;
 use std::sync::ledger::Ledger;
@@ -19,7 +20,8 @@ use std::sync::ledger::Ledger;
 /// What a searcher keeps beside its branches: the inverse of the cell that it expanded last, from
 /// which the next one is reached by exchanges. Where `cell_bound::every_cell_fits` tells of a
 /// problem of version 1 that the working of each cell fits, a branch that an expansion opened is
-/// expanded with no elimination, and its entry isn't formed.
+/// expanded with no elimination, and its entry isn't formed. All others are eliminated, each from the
+/// table of the one before it.
 #[derive(Drop)]
 pub struct Walk {
     // Whether the working of each cell fits, and the heights have no infinitesimals.
@@ -28,6 +30,8 @@ pub struct Walk {
     // and are expanded by an elimination.
     pub(crate) given: usize,
     pub(crate) last: Option<Last>,
+    // The table of the cell that was eliminated last.
+    pub(crate) kept: Kept,
 }
 
 fn carries(problem: &Problem) -> bool
@@ -48,6 +52,7 @@ fn carried_on<L: Ledger>(
     problem: &Problem,
     branch: Branch,
     last: &mut Option<Last>,
+    kept: &mut Kept,
     steps: &mut Steps<L>,
 ) -> Result<Expansion, Halt>
     requires still { IsStill problem.now }
@@ -59,10 +64,10 @@ fn carried_on<L: Ledger>(
     ensures step { IsOf problem.now branch.cell → steps.new ≡ steps.old + 1 }
 {
     let Some(reached) = reach(alloc, problem, branch.cell(), mem::replace(last, None)) else {
-        return expand(alloc, problem, branch, steps);
+        return expand_kept(alloc, problem, branch, kept, steps);
     };
     let Some(sought) = seek(alloc, problem, &reached, steps) else {
-        return expand(alloc, problem, branch, steps);
+        return expand_kept(alloc, problem, branch, kept, steps);
     };
     let normal = sought.normal;
     let answer = ended_by(alloc, problem, &branch, &reached, normal, &sought.front);
@@ -114,6 +119,7 @@ impl Walk {
             carries: carries(problem),
             given,
             last: None,
+            kept: Kept::new(),
         }
     }
 
@@ -138,9 +144,16 @@ impl Walk {
         let made = self.given <= count;
         self.given = lesser(self.given, count);
         if made && self.carries {
-            carried_on(alloc, problem, branch, &mut self.last, steps)
+            carried_on(
+                alloc,
+                problem,
+                branch,
+                &mut self.last,
+                &mut self.kept,
+                steps,
+            )
         } else {
-            expand(alloc, problem, branch, steps)
+            expand_kept(alloc, problem, branch, &mut self.kept, steps)
         }
     }
 

@@ -14,10 +14,10 @@ returns-in_err-reduced c =
     let k = rw (c.in_ok-rows.ensures.value, c.dim.ensures.value) at c.in_err-reduced.ensures.kernel in
     rw (p.1, p.2) (rows_fault c.args.problem.now.dimension _ c.in_err-reduced.field-0.0 w k)
 
-pub invariant_of-result : goal.invariant_of-result
-invariant_of-result c =
+pub from_reduced-requires : goal.from_reduced-requires
+from_reduced-requires c =
     let w : IsEliminated c.args.problem.now.dimension _ c.in_ok-reduced.reduced = rw (c.in_ok-rows.ensures.value, c.dim.ensures.value) at c.in_ok-reduced.ensures.working in
-    (reduced_widths c.args.problem.now c.args.cell.now c.dim.ensures.valid.shape.problem c.requires c.in_ok-reduced.reduced w, (c.denominator-den.ensures.value, c.denominator-den.ensures.fits, c.denominator-den.ensures.positive))
+    reduced_widths c.args.problem.now c.args.cell.now c.dim.ensures.valid.shape.problem c.requires c.in_ok-reduced.reduced w
 
 pub returns : goal.returns
-returns c = rw (c.in_ok-rows.ensures.value, c.dim.ensures.value) at c.in_ok-reduced.ensures.working
+returns c = rw (c.from_reduced.ensures) (rw (c.in_ok-rows.ensures.value, c.dim.ensures.value) at c.in_ok-reduced.ensures.working)

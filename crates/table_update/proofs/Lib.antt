@@ -1,0 +1,6 @@
+mod Listed
+mod OneStep
+mod Passing
+mod Reached
+mod Tables
+mod Turn
