@@ -13,7 +13,7 @@ ghost use Rattle.crossing.specs.declared.exit.Exit.TheVariants as exit;
 ghost use Rattle.inner_normal.specs.Coefficients.{difference, coefficients_of, numbers_of, FitsCoefficients};
 ghost use Rattle.searcher.specs.Branches.{branches_of, children_of};
 ghost use Rattle.searcher.specs.Ends.{IsTiedAtEnd};
-ghost use Rattle.searcher.specs.Kept.{AreSignsAt};
+ghost use Rattle.carried_inverse.specs.Answers.{HasPairSigns};
 ghost use Rattle.log_check.specs.Nodes.{HasShape, IsFit, IsJudged};
 ghost use Rattle.log_check.specs.Numbers.{inverse_of};
 ghost use Rattle.log_check.specs.Walled.{HasLines, IsWalled};
@@ -50,7 +50,7 @@ fn signs_by(
     requires columns { Each inverse.now.columns (λ column. length column ≡ problem.now.dimension) }
     requires fits { FitsCoefficients (support - 1) inverse.now (difference problem.now cell.now (support - 1) position) }
     requires depends { IsPositiveDependency problem.now cell.now (support - 1) position (numbers_of (coefficients_of (support - 1) inverse.now (difference problem.now cell.now (support - 1) position))) }
-    ensures { IfOk result (AreSignsAt problem.now cell.now (support - 1) position) }
+    ensures { IfOk result (HasPairSigns problem.now cell.now (support - 1) position) }
 {
     let Ok(coefficients) = coefficients_by(alloc, problem, cell, inverse, support, position) else {
         return Err(OutOfMemory);

@@ -26,7 +26,8 @@ use Rattle.circuit.specs.Circuits.{IsCircuit}
 use Rattle.inner_normal.specs.Coefficients.{pairs_of, numbers_of}
 use Rattle.searcher.specs.declared.branches.Branch.{Branch}
 use Rattle.searcher.specs.Branches.{branch_of, branches_of}
-use Rattle.searcher.specs.Kept.{AreSignsAt, EndsAtWall, IsKept}
+use Rattle.searcher.specs.Kept.{EndsAtWall, IsKept}
+use Rattle.carried_inverse.specs.Answers.{HasPairSigns}
 
 -- ---- the signs of a circuit
 pub has_sign : (k : ℤ) → HasSign (sign_of k) k
@@ -60,7 +61,7 @@ not_negative Minus k h n = absurd (n refl)
 not_negative Zero k h n = omega (arith, ints, h)
 not_negative Plus k h n = omega (arith, ints, h)
 
-pub some_minus : (p : Problem) (cell : Cell) (j c : ℕ) (signs : Sign × Sign) → j < length cell → AreSignsAt p cell j c signs → ¬ ((signs.0 ≢ Minus) × (signs.1 ≢ Minus))
+pub some_minus : (p : Problem) (cell : Cell) (j c : ℕ) (signs : Sign × Sign) → j < length cell → HasPairSigns p cell j c signs → ¬ ((signs.0 ≢ Minus) × (signs.1 ≢ Minus))
 some_minus p cell j c signs l h n =
     let d = h.1 in
     let count = d.1.0 in
@@ -142,7 +143,7 @@ module _ (p : Problem) (cell : Cell) (j c : ℕ) (signs : Sign × Sign) (u : lex
 -- ---- the wall
 pub at_wall : (p : Problem) (cell : Cell) (j c : ℕ) (signs : Sign × Sign) (u : lex.Value) → IsProblem p
     → ((t : Time) × (t.entries ≡ entries u.parts) × (t.over ≡ u.den) × EndsAt p cell t × ((v : Normal) × IsNormal p cell t v × IsOnlyLevel p cell t v j c))
-    → AreSignsAt p cell j c signs → EndsAtWall p cell j c signs u
+    → HasPairSigns p cell j c signs → EndsAtWall p cell j c signs u
 at_wall p cell j c signs u well h s = record {
   t = h.0;
   same_entries = h.1;
@@ -162,7 +163,7 @@ at_wall p cell j c signs u well h s = record {
 
 -- the signs of a circuit's numbers
 pub signs_of : (p : Problem) (cell : Cell) (j c : ℕ) (numbers : Numbers) (a b : Sign) → IsPositiveDependency p cell j c numbers
-    → a ≡ sign_of (number_at numbers.pairs j).0 → b ≡ sign_of (number_at numbers.pairs j).1 → AreSignsAt p cell j c (a, b)
+    → a ≡ sign_of (number_at numbers.pairs j).0 → b ≡ sign_of (number_at numbers.pairs j).1 → HasPairSigns p cell j c (a, b)
 signs_of p cell j c numbers a b d e f = (
   numbers,
   d,
@@ -191,7 +192,7 @@ module _ (p : Problem) (cell : Cell) (j c : ℕ) (circuit : Circuit) (is : IsCir
       one_minus p cell j c (numbers_of circuit.coefficients) inside is.dependency
       ((λ e. f (first d ∙ e)), (λ e. g (second d ∙ e)))
 
-  pub their_signs : (d : Sign) (s : Sign × Sign) → s ≡ (slice_index_or signs 0 d, slice_index_or signs 1 d) → AreSignsAt p cell j c s
+  pub their_signs : (d : Sign) (s : Sign × Sign) → s ≡ (slice_index_or signs 0 d, slice_index_or signs 1 d) → HasPairSigns p cell j c s
   their_signs d s e =
-      subst (AreSignsAt p cell j c) (sym e)
+      subst (HasPairSigns p cell j c) (sym e)
       (signs_of p cell j c (numbers_of circuit.coefficients) (slice_index_or signs 0 d) (slice_index_or signs 1 d) is.dependency (first d) (second d))

@@ -9,14 +9,8 @@ use Rattle.cayley.specs.Problems.{Problem}
 use Rattle.cayley.specs.Cells.{Cell}
 use Rattle.cayley.specs.Lives.{EndsAt}
 use Rattle.cayley.specs.Parents.{IsParent}
-use Rattle.cayley.specs.Dependencies.{Numbers, number_at, IsPositiveDependency}
-use Rattle.cayley.specs.Signs.{HaveSigns}
 use Rattle.flip_rule.specs.Walls.{IsWall}
 use Rattle.searcher.specs.declared.branches.Branch.{Branch}
-
--- the signs at pair j of a dependency that is positive at the further point c of support j
-abbrev pub AreSignsAt : Problem → Cell → ℕ → ℕ → Sign × Sign → Type 0
-AreSignsAt p cell j c signs = (numbers : Numbers) × IsPositiveDependency p cell j c numbers × HaveSigns signs (number_at numbers.pairs j)
 
 -- the cell ends at the time u, where of all further points c of support j alone is level
 pub record EndsAtWall (p : Problem) (cell : Cell) (j c : ℕ) (signs : Sign × Sign) (u : lex.Value) : Type 0 where

@@ -14,7 +14,8 @@ ghost use Rattle.flip_rule.specs.Rules.{IsNewPoint};
 ghost use Rattle.inner_normal.specs.Coefficients.{difference, FitsCoefficients};
 ghost use Rattle.inner_normal.specs.Inverses.{IsInverseOf};
 ghost use Rattle.searcher.specs.Branches.{branches_of, children_of};
-ghost use Rattle.searcher.specs.Kept.{AreSignsAt, EndsAtWall, IsKept};
+ghost use Rattle.carried_inverse.specs.Answers.{HasPairSigns};
+ghost use Rattle.searcher.specs.Kept.{EndsAtWall, IsKept};
 
 use crate::branches::Branch;
 use crate::expansions::Children;
@@ -94,7 +95,7 @@ pub(crate) fn signs_at(
     requires point { (1 ≤ support) × (support ≤ problem.now.dimension) × IsFurtherAt problem.now cell.now (support - 1) position }
     requires inverse { IsInverseOf problem.now cell.now inverse.now }
     requires fits { FitsCoefficients (support - 1) inverse.now (difference problem.now cell.now (support - 1) position) }
-    ensures { IfOk result (AreSignsAt problem.now cell.now (support - 1) position) }
+    ensures { IfOk result (HasPairSigns problem.now cell.now (support - 1) position) }
 {
     let Ok(circuit) = circuit_with(alloc, problem, cell, inverse, support, position) else {
         return Err(OutOfMemory);
@@ -119,7 +120,7 @@ pub fn kept_by(
 ) -> Children
     requires cell { IsOf problem.now cell.now }
     requires point { (1 ≤ support) × (support ≤ problem.now.dimension) × IsFurtherAt problem.now cell.now (support - 1) position }
-    requires signs { AreSignsAt problem.now cell.now (support - 1) position signs }
+    requires signs { HasPairSigns problem.now cell.now (support - 1) position signs }
     requires wall { (t : Time) × (t.entries ≡ entries time.parts) × (t.over ≡ time.den) × EndsAt problem.now cell.now t
         × ((v : Normal) × IsNormal problem.now cell.now t v × IsOnlyLevel problem.now cell.now t v (support - 1) position) }
     ensures { IsChildren problem.now cell.now (branches_of (children_of result)) }

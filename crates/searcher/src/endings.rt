@@ -8,7 +8,7 @@ ghost use Rattle.cone_walls.specs.Ends.{IsFrontOf};
 ghost use Rattle.cone_walls.specs.Fronts.{place_by, IsFall, IsTimeOf, AreFalls};
 ghost use Rattle.searcher.specs.Ends.{IsTiedAtBegin};
 ghost use Rattle.searcher.specs.Expansions.{IsCause, IsExpansion, IsSettled};
-ghost use Rattle.searcher.specs.Kept.{AreSignsAt};
+ghost use Rattle.carried_inverse.specs.Answers.{HasPairSigns};
 ghost use Rattle.searcher.specs.Walks.{IsLast};
 ghost use Rattle.searcher.specs.Workings.{FitsWorking};
 
@@ -64,7 +64,7 @@ fn signs_anew(
     requires cell { IsOf problem.now cell.now }
     requires point { (1 ≤ support) × (support ≤ problem.now.dimension) × IsFurtherAt problem.now cell.now (support - 1) position }
     requires fits { FitsWorking problem.now cell.now }
-    ensures { IfOk result (AreSignsAt problem.now cell.now (support - 1) position) }
+    ensures { IfOk result (HasPairSigns problem.now cell.now (support - 1) position) }
 {
     let Ok(eliminated) = Eliminated::of(alloc, problem, cell) else {
         return Err(OutOfMemory);
@@ -86,7 +86,7 @@ pub(crate) fn signs_by(
     requires last { IsLast problem.now last.now }
     requires point { (1 ≤ support) × (support ≤ problem.now.dimension) × IsFurtherAt problem.now last.now.cell (support - 1) position }
     requires fits { FitsWorking problem.now last.now.cell }
-    ensures { IfOk result (AreSignsAt problem.now last.now.cell (support - 1) position) }
+    ensures { IfOk result (HasPairSigns problem.now last.now.cell (support - 1) position) }
 {
     // A problem is valid by its type, as its readers tell.
     let _dim = problem.dim();

@@ -10,7 +10,8 @@ ghost use Rattle.cayley.specs.Lives.{EndsAt};
 ghost use Rattle.cayley.specs.Dependencies.{IsFurtherAt};
 ghost use Rattle.cayley.specs.Flips.{IsOnlyLevel};
 ghost use Rattle.flip_rule.specs.Rules.{IsNewPoint};
-ghost use Rattle.searcher.specs.Kept.{AreSignsAt, EndsAtWall};
+ghost use Rattle.carried_inverse.specs.Answers.{HasPairSigns};
+ghost use Rattle.searcher.specs.Kept.{EndsAtWall};
 ghost use Rattle.searcher.specs.Turns.{PutsChildren};
 
 use crate::branches::Branch;
@@ -67,7 +68,7 @@ pub(crate) fn put_children_by(
 )
     requires cell { IsOf problem.now cell.now }
     requires point { (1 ≤ support) × (support ≤ problem.now.dimension) × IsFurtherAt problem.now cell.now (support - 1) position }
-    requires signs { AreSignsAt problem.now cell.now (support - 1) position signs.now }
+    requires signs { HasPairSigns problem.now cell.now (support - 1) position signs.now }
     requires wall { (t : Time) × (t.entries ≡ entries time.now.parts) × (t.over ≡ time.now.den) × EndsAt problem.now cell.now t
         × ((v : Normal) × IsNormal problem.now cell.now t v × IsOnlyLevel problem.now cell.now t v (support - 1) position) }
     requires room { vec_len left.old + 2 ≤ vec_capacity left.old }
