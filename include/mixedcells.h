@@ -15,11 +15,11 @@ extern "C" {
 
 /* What mixedcells_run returns: the statuses of the program, and one more. */
 enum {
-    MIXEDCELLS_OK = 0,          /* the whole answer: a listing, two lines of `sum`, "yes", powers, "tie free", or a file */
-    MIXEDCELLS_NO = 1,          /* `check` and `powers`: a line of the listing doesn't pass */
+    MIXEDCELLS_OK = 0,          /* the whole answer: a listing, two lines of `sum`, "yes", powers, "tie free", a log, or a file */
+    MIXEDCELLS_NO = 1,          /* `check`, `powers`, `move` and `verify`: a line of the listing or the log does not pass */
     MIXEDCELLS_USAGE = 2,       /* the command has no meaning; one that isn't UTF-8 has none */
     MIXEDCELLS_FORMAT = 3,      /* the input has a faulty line */
-    MIXEDCELLS_TIE = 4,         /* `list`, `sum` and `generic`: two points are level with a cell at once */
+    MIXEDCELLS_TIE = 4,         /* `list`, `sum`, `trace`, `generic` and `move`: two points are level with a cell at once */
     MIXEDCELLS_OVERFLOW = 5,    /* a number that is needed is above 2^127 - 1 */
     MIXEDCELLS_READ_FAULT = 6,  /* of the program alone: never returned here */
     MIXEDCELLS_WRITE_FAULT = 7, /* of the program alone: never returned here */

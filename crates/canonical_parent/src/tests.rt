@@ -1,4 +1,4 @@
-use crate::keeps;
+use crate::{is_least, keeps};
 use cayley::{Cell, Sign};
 use flip_rule::Signs;
 use std::alloc::Global;
@@ -43,5 +43,23 @@ fn a_cell_that_splits_keeps_both(rt: HostRuntime) {
             one_four(rt.alloc(), child, Sign::Minus, Sign::Minus),
             Some(want)
         );
+    }
+}
+
+// Whether the cell 2 4 is the least where point 3 and where point 5 is level.
+fn two_four(alloc: Global, a: Sign, b: Sign) -> Option<(bool, bool)> {
+    let cell = Cell::new(alloc, &[(2, 4)])?;
+    let signs = Signs::new(a, b)?;
+    Some((is_least(&cell, 1, 3, &signs), is_least(&cell, 1, 5, &signs)))
+}
+
+#[test]
+fn the_least_of_two_cells(rt: HostRuntime) {
+    for (a, b, want) in [
+        (Sign::Minus, Sign::Minus, (true, true)),
+        (Sign::Minus, Sign::Plus, (false, true)),
+        (Sign::Plus, Sign::Minus, (true, true)),
+    ] {
+        assert_eq!(rt; two_four(rt.alloc(), a, b), Some(want));
     }
 }

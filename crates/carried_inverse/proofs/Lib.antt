@@ -3,7 +3,9 @@ mod ColumnSteps
 mod Turning
 mod Exchanging
 mod Lowering
-pub mod CellMoves
+mod DividedColumns
+mod Growing
+mod CellMoves
 pub mod Rooms
 pub mod FromRows
 mod LowestRows

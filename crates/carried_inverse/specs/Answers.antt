@@ -1,6 +1,7 @@
 -- What an exchange answers.
-use Rattle.std.specs.Prelude.{◌≡◌, ℕ, List, length, map, ℤ, pos, slice_set}
-use Rattle.int_vectors.specs.Vectors.{IsZero, IsOrthogonal, dot, row_at}
+use Rattle.std.specs.Prelude.{◌≡◌, ◌≤◌, ℕ, List, length, map, ℤ, pos, slice_set, unsigned_abs}
+use Rattle.int_vectors.specs.Bounds.{Within}
+use Rattle.int_vectors.specs.Vectors.{Each, IsZero, IsOrthogonal, dot, row_at}
 use Rattle.inner_normal.specs.Inverses.{Inverse}
 use Rattle.carried_inverse.specs.declared.carried.Exchange.{Exchange}
 use Rattle.carried_inverse.specs.declared.carried.Exchange.TheVariants.{Made, Dependent, TooLarge}
@@ -24,9 +25,9 @@ IsExchange i row old new Dependent = (new ≡ old)
     → IsOrthogonal (slice_set rows i row) (row_at old.columns i) × ¬ (IsZero (row_at old.columns i)))
 IsExchange i row old new TooLarge = new ≡ old
 
--- one exchange of columns by the products with the new row
+-- one exchange of columns by the products with the new row, and a bound on all that it makes
 abbrev pub IsStep : ℕ → ℤ → List ℤ → List (List ℤ) → List (List ℤ) → Step → Type 0
-IsStep i den row old new (step.Made over) = IsExchanged i den (map (dot row) old) old over new
+IsStep i den row old new (step.Made over most) = IsExchanged i den (map (dot row) old) old over new × (unsigned_abs over ≤ most) × Each new (Within most)
 IsStep i den row old new step.Dependent = (new ≡ old) × (dot row (row_at old i) ≡ pos 0)
 IsStep i den row old new step.TooLarge = new ≡ old
 

@@ -1,4 +1,4 @@
-ghost use Rattle.std.specs.Prelude.{IsTrue, IfOk, IfSome, ◌∷◌, [], ◌-◌, ◌≡◌, ◌≢◌, ◌+◌, ◌*◌, ◌<◌, ◌≤◌, ◌^◌, ℕ, ℤ, List, pos, ◌*ℤ◌, ◌-ℤ◌, ◌+ℤ◌, ◌<ℤ◌, unsigned_abs, length, map};
+ghost use Rattle.std.specs.Prelude.{IsTrue, ◌/◌, IfOk, IfSome, ◌∷◌, [], ◌-◌, ◌≡◌, ◌≢◌, ◌+◌, ◌*◌, ◌<◌, ◌≤◌, ◌^◌, ℕ, ℤ, List, pos, ◌*ℤ◌, ◌-ℤ◌, ◌+ℤ◌, ◌<ℤ◌, unsigned_abs, length, map};
 ghost use Rattle.int_vectors.specs.Bounds.{Within};
 ghost use Rattle.int_vectors.specs.Vectors.{Each, at, dot, row_at};
 ghost use Rattle.cayley.specs.Cells as cells;
@@ -18,10 +18,10 @@ ghost use Rattle.carried_inverse.specs.Answers.{IsExchange, IsStep, IsFlip, HasP
 
 use crate::beginning::{short, short_columns, zeros};
 use crate::columns::{
-    Column, combine_all, combine_lowest, copy_columns, divide_all, divisor_of, greatest_of,
-    products, turn,
+    Column, combine_all, copy_columns, divide_all, divisor_of, greatest_of, products, turn,
 };
-use crate::entries::{combine, greatest, is_short, less, quotient, shared_signed, size, times};
+use crate::combining::combine_lowest;
+use crate::entries::{greatest, is_short, less, quotient, size, times};
 use crate::falling::falls_of;
 use crate::flips::{first_of, point_of, product_within, put_differences, signs_of};
 use crate::sums::sums_of;
@@ -93,7 +93,7 @@ fn lower(columns: &mut Vec<Column>, den: i64) -> i64
 }
 
 // The columns of the new rows, by the products of the new row and the old columns; gives their
-// denominator. A divisor of the numbers at the place mostly divides all combinations.
+// denominator. Their divisor is found on the way.
 fn exchange_columns(
     columns: &mut Vec<Column>,
     spare: &mut Vec<Column>,
@@ -121,10 +121,7 @@ fn exchange_columns(
     shares[place] = share;
     let multiple = times(den, pivot);
     let by = columns[place].as_slice();
-    kept.copy_from_slice(by);
-    combine(kept, pivot, share, by);
-    let start = shared_signed(multiple, kept);
-    if let Some(g) = combine_lowest(columns, pivot, shares, by, start, spare) {
+    if let Some(g) = combine_lowest(columns, pivot, shares, by, multiple, spare) {
         mem::swap(columns, spare);
         return quotient(multiple, g);
     }
@@ -148,9 +145,37 @@ fn sums_fit(n: usize, numbers: &[i64], most: u64) -> bool
 
 // What an exchange makes of the columns.
 enum Step {
-    Made { den: i64 },
+    // Its denominator, and a bound on this and all entries.
+    Made { den: i64, most: u64 },
     Dependent,
     TooLarge,
+}
+
+// A bound on what an exchange makes over `made`, by bounds on the products and on all else.
+fn grown(share: u64, most: u64, den: i64, pivot: u64, made: i64) -> u64
+    requires share { share < 2 ^ 61 }
+    requires most { most < 2 ^ 61 }
+    requires room { (2 * share + most) * most < 2 ^ 62 }
+    requires product { unsigned_abs den * pivot < 2 ^ 62 }
+    requires made { pos 0 <ℤ made }
+    requires divisor { 0 < (unsigned_abs den * pivot) / unsigned_abs made }
+    ensures { result ≡ ((2 * share + most) * most) / ((unsigned_abs den * pivot) / unsigned_abs made) }
+{
+    (2 * share + most) * most / (den.unsigned_abs() * pivot / made.unsigned_abs())
+}
+
+// The bound, or a less one where it isn't small.
+fn settled(most: u64, den: i64, columns: &[Column]) -> u64
+    requires den { unsigned_abs den ≤ most }
+    requires columns { Each columns.now (Within most) }
+    ensures den { unsigned_abs den ≤ result }
+    ensures columns { Each columns.now (Within result) }
+{
+    if most < 1 << 20 {
+        most
+    } else {
+        greatest_of(den, columns)
+    }
 }
 
 // One exchange of columns over `den`.
@@ -185,11 +210,15 @@ fn exchange_step(
     if shares[place] == 0 {
         return Step::Dependent;
     }
-    if !leaves_room(greatest(shares), most) {
+    let share = greatest(shares);
+    if !leaves_room(share, most) {
         return Step::TooLarge;
     }
+    let pivot = shares[place].unsigned_abs();
+    let made = exchange_columns(columns, spare, den, place, shares, kept);
     Step::Made {
-        den: exchange_columns(columns, spare, den, place, shares, kept),
+        den: made,
+        most: grown(share, most, den, pivot, made),
     }
 }
 
@@ -280,8 +309,8 @@ impl Carried {
             &mut self.shares,
             &mut self.kept,
         ) {
-            Step::Made { den } => {
-                self.most = greatest_of(den, &self.columns);
+            Step::Made { den, most } => {
+                self.most = settled(most, den, &self.columns);
                 self.den = den;
                 Exchange::Made
             }

@@ -2,11 +2,12 @@
 use Rattle.std.proofs.Common.{◌≡◌, ℕ, ◌+◌, ◌*◌, ◌^◌, ◌<◌, ◌≤◌, ℤ, pos, ◌+ℤ◌, ◌-ℤ◌, ◌*ℤ◌, unsigned_abs, List, [], ◌∷◌, length, get_or, drop, arith, sym, ap, ap₂, subst, ◌∙◌, FitsSigned, drop_of_length-le}
 use Rattle.std.proofs.Math.IntN.{+ℤ_assoc, +ℤ_idr}
 use Rattle.std.specs.Int.{w64}
-use Rattle.std.proofs.lemmas.Int.{ints, unsigned_abs-mul, fits_signed_from_abs}
+use Rattle.std.proofs.lemmas.Int.{unsigned_abs-mul, fits_signed_from_abs}
 use Rattle.wide_int.proofs.Ring.{as_D, Ds, same_D}
 use Rattle.int_vectors.specs.Vectors.{dot, sub}
 use Rattle.int_vectors.specs.Bounds.{size, Within, Room, IsNarrow}
 use Rattle.int_vectors.proofs.BoundSums.{mul_le, room_at}
+use Rattle.int_vectors.proofs.DifferenceSums.{sub_at, long_sub}
 use Rattle.int_vectors.proofs.DotSteps.{dot-step}
 use Rattle.cayley.specs.Problems.{Point, Problem, point_at, with_rank}
 use Rattle.cayley.specs.Valid.{IsValidProblem, support_at}
@@ -34,6 +35,23 @@ pub sum_end : (start t : ℤ) (c v : List ℤ) (i : ℕ) → length c ≡ length
 sum_end start t c v i lc le e =
     let d : drop i c ≡ [] = drop_of_length-le c (omega (arith, lc, le)) in
     sym (+ℤ_idr t) ∙ (rw d at e)
+
+-- ---- the same of a difference
+module _ (t u : ℤ) (a c v : List ℤ) (i : ℕ) (la : length a ≡ length v) (lc : length c ≡ length v) (lt : i < length v) (e : u ≡ t +ℤ (get_or c i (pos 0) -ℤ get_or a i (pos 0)) *ℤ get_or v i (pos 0)) where
+  inside : i < length (sub c a)
+  inside = let l = long_sub c a (lc ∙ sym la) in omega (arith, l, lc, lt)
+
+  same : u ≡ t +ℤ get_or (sub c a) i (pos 0) *ℤ get_or v i (pos 0)
+  same = e ∙ ap (λ x. t +ℤ x *ℤ get_or v i (pos 0)) (sym (sub_at c a i (omega (arith, lc, lt)) (lc ∙ sym la)))
+
+  pub difference_value : u +ℤ dot (drop (i + 1) (sub c a)) (drop (i + 1) v) ≡ t +ℤ dot (drop i (sub c a)) (drop i v)
+  difference_value = place_value t u (sub c a) v i inside lt same
+
+  pub difference_room : Room (2 ^ 62) t (drop i (sub c a)) (drop i v) → Room (2 ^ 62) u (drop (i + 1) (sub c a)) (drop (i + 1) v)
+  difference_room r = place_room t u (sub c a) v i inside lt same r
+
+pub difference_end : (start t : ℤ) (a c v : List ℤ) (i : ℕ) → length a ≡ length v → length c ≡ length v → length v ≤ i → t +ℤ dot (drop i (sub c a)) (drop i v) ≡ start +ℤ dot (sub c a) v → t ≡ start +ℤ dot (sub c a) v
+difference_end start t a c v i la lc le e = sum_end start t (sub c a) v i (long_sub c a (lc ∙ sym la) ∙ lc) le e
 
 -- a line grows by what its point drifts more than the first point of the pair
 pub growth_is : (m : MovingNormal) (a c : Point) → drift m c -ℤ drift m a ≡ beta m a c

@@ -1,5 +1,5 @@
 -- a cell is alive exactly where all its lines are positive
-use Rattle.std.proofs.Common.{◌≡◌, ◌↔◌, suc, ◌-◌, List, [], arith, sym, subst}
+use Rattle.std.proofs.Common.{◌≡◌, ◌↔◌, suc, ◌-◌, List, arith, sym, subst}
 use Rattle.std.specs.Prelude.{All}
 use Rattle.int_vectors.specs.Vectors.{Each, IsPositive}
 use Rattle.cayley.specs.Times.{Time}

@@ -1,5 +1,5 @@
 -- the lines of a problem's points stay below 2 ^ 62 where the room of the normal is narrow
-use Rattle.std.proofs.Common.{◌≡◌, ℕ, ◌^◌, ◌<◌, ◌≤◌, length, arith, sym, ◌∙◌, unsigned_abs, ◌*ℤ◌, ◌-ℤ◌, ◌*◌, neg_ℤ, ℤ, ap}
+use Rattle.std.proofs.Common.{◌≡◌, ℕ, ◌^◌, ◌<◌, ◌≤◌, length, arith, sym, ◌∙◌, unsigned_abs, ◌*ℤ◌, ◌-ℤ◌, neg_ℤ, ℤ}
 use Rattle.std.proofs.lemmas.Int.{unsigned_abs-mul}
 use Rattle.std.proofs.lemmas.Nat.{mul-le}
 use Rattle.int_vectors.proofs.BoundSums.{abs_neg}

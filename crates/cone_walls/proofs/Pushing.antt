@@ -1,9 +1,6 @@
 -- one more line, and the lines of one more support
 use Rattle.std.proofs.Common.{◌≡◌, ◌↔◌, ℕ, zero, suc, ◌+◌, ◌-◌, ◌<◌, ◌≤◌, Bool, true, false, if◌then◌else◌, ◌==◌, List, [], ◌∷◌, ◌++◌, length, drop, get_or, drop-cons, add-one, drop_of_length-le, append_assoc, append-nil, arith, refl, sym, ap, ap₂, subst, ◌∙◌}
 use Rattle.std.specs.Prelude.{All}
-use Rattle.reduced_rows.specs.declared.faults.FromFault.{FromFault}
-use Rattle.reduced_rows.specs.declared.faults.FromFault.TheVariants.{Overflow, OutOfMemory}
-use Rattle.reduced_rows.specs.Refusals.{IsFromFault}
 use Rattle.cayley.specs.Problems.{Point, Problem, origin, point_at}
 use Rattle.cayley.specs.Cells.{Cell, EachPair, IsOf}
 use Rattle.cayley.specs.Valid.{IsValidProblem, support_at}

@@ -1,5 +1,5 @@
 -- The two numbers of a wall line, under the normal (p + q t) / den.
-use Rattle.std.specs.Prelude.{List, ℤ, ◌+ℤ◌, ◌-ℤ◌, ◌*ℤ◌}
+use Rattle.std.specs.Prelude.{ℤ, ◌+ℤ◌, ◌-ℤ◌, ◌*ℤ◌}
 use Rattle.int_vectors.specs.Vectors.{sub, dot}
 use Rattle.int_vectors.specs.Fits.{FitsSum}
 use Rattle.cayley.specs.Problems.{Point}

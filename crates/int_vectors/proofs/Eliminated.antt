@@ -1,3 +1,4 @@
+-- a combination of two rows, place after place
 use Rattle.std.proofs.Common.{◌≡◌, ℕ, zero, suc, ◌+◌, ◌<◌, ℤ, pos, ◌*ℤ◌, ◌-ℤ◌, List, [], ◌∷◌, ◌++◌, length, get_or, take, refl, ap, arith, length-take}
 use Rattle.std.proofs.lemmas.List.{take_more}
 use Rattle.wide_int.specs.Whole.{FitsMulSub}

@@ -8,10 +8,11 @@ mod Judged
 mod Walks
 mod WalkSteps
 mod Expecting
-mod OneRefusal
+pub mod OneRefusal
 mod PassedNodes
 mod DueTurns
 mod LogSteps
 mod SameNormals
-mod RightLogs
+pub mod RightLogs
+pub mod SameLogs
 pub mod FormedLogs

@@ -5,6 +5,7 @@ use crate::{CheckFault, PathLog, Verdict, verify};
 use path_log::{read_log, read_log_is_formed};
 use std::alloc::Global;
 use std::test::Fail;
+use support_text::TextFault;
 
 // A segment of length two.
 const SEGMENT: &[u8] = b"mixedcells 1\ndim 1\nsupport 2\n0 : 0\n2 : 1\nend\n";
@@ -16,13 +17,14 @@ fn read(alloc: Global, text: &[u8]) -> Result<PathLog, Fail>
     read_log_is_formed();
     match read_log(alloc, text) {
         Ok(log) => Ok(log),
-        Err(_fault) => Err(Fail::from("the text is no log")),
+        Err(TextFault::OutOfMemory) => Err(Fail::from("out of memory")),
+        Err(TextFault::Format(_fault)) => Err(Fail::from("the text is no log")),
     }
 }
 
 // The line and the reason: 0 and 0 for yes, the line and 0 for a number that doesn't fit.
-fn judged(alloc: Global, more: &[u8]) -> Result<(u64, u8), Fail> {
-    let mut text = SEGMENT.to_vec(alloc)?;
+fn judged(alloc: Global, file: &[u8], more: &[u8]) -> Result<(u64, u8), Fail> {
+    let mut text = file.to_vec(alloc)?;
     text.extend_from_slice(more)?;
     let log = read(alloc, &text)?;
     match verify(alloc, &log) {
@@ -86,22 +88,15 @@ fn logs_of_a_segment(rt: HostRuntime) -> Result<(), Fail> {
         ),
     ];
     for (more, answer) in table {
-        assert_eq!(rt; judged(rt.alloc(), more)?, answer);
+        assert_eq!(rt; judged(rt.alloc(), SEGMENT, more)?, answer);
     }
     Ok(())
 }
 
 #[test]
 fn two_points_that_are_level_where_the_first_cell_ends(rt: HostRuntime) -> Result<(), Fail> {
-    let text =
-        b"mixedcells 1\ndim 1\nsupport 2\n0 : 7\n1 : 7\nend\nlog 1\nnode 3 4 : 1 : 1\ncells 0\nend\n";
-    let log = read(rt.alloc(), text)?;
-    assert_eq!(rt;
-        verify(rt.alloc(), &log).ok(),
-        Some(Verdict::No {
-            line: 8,
-            reason: 13
-        })
-    );
+    let file = b"mixedcells 1\ndim 1\nsupport 2\n0 : 7\n1 : 7\nend\n";
+    let more = b"log 1\nnode 3 4 : 1 : 1\ncells 0\nend\n";
+    assert_eq!(rt; judged(rt.alloc(), file, more)?, (8, 13));
     Ok(())
 }

@@ -32,6 +32,7 @@ use Rattle.mixedcells.specs.declared.outcome.Outcome.{Outcome}
 use Rattle.mixedcells.specs.declared.outcome.Outcome.TheVariants as variant
 use Rattle.mixedcells.specs.Words.{Means, IsWalking}
 use Rattle.mixedcells.specs.Outcomes.{status_of, sum_lines, tie_free_line, too_many_line, overflow_cell, IsTieLine}
+use Rattle.mixedcells.specs.Logs.{IsTracedText}
 use Rattle.mixedcells.specs.Walks.{top_count, IsSafe, TreeFits, IsReachedListing, IsReachedSum, IsSumOf, IsTreeTie, IsTreeUnfit, IsWalkReply, IsTieReply}
 use Rattle.mixedcells.specs.Journeys.{HasWalked, HasCounted, HasHalted, TellsCause}
 use Rattle.mixedcells.specs.Answers.{limit, IsFileReply, IsAloneReply}
@@ -146,6 +147,9 @@ module _ (words : List (List ℕ)) (bytes : List ℕ) where
   sum_reply : (n : ℕ) (o : Outcome) (t : List ℕ) → nat_le 2 n ≡ false → Means words (verb.Sum n) → (status_of o ≡ 9 → ⊥) → IsCalledFor words (Some bytes) o t → IsFileReply (IsWalkReply IsReachedSum) bytes o t
   sum_reply n o t e means other h = alone_reply n IsReachedSum bytes o t e (reply_not_long (verb.Sum n) bytes o t other (answer_of words bytes (verb.Sum n) o t means h))
 
+  trace_reply : (o : Outcome) (t : List ℕ) → Means words verb.Trace → (status_of o ≡ 9 → ⊥) → IsCalledFor words (Some bytes) o t → IsFileReply (IsWalkReply IsTracedText) bytes o t
+  trace_reply o t means other h = reply_not_long verb.Trace bytes o t other (answer_of words bytes verb.Trace o t means h)
+
   -- `list` that ended Ok
   pub reached : (left : Option (List ℕ)) (o : Outcome) (t : List ℕ) → left ≡ Some bytes → Means words (verb.List 1) → o ≡ variant.Ok → IsCalledFor words left o t
       → (file : File) × (problem_of bytes ≡ Ok file) × IsReachedListing file t
@@ -174,12 +178,20 @@ module _ (words : List (List ℕ)) (bytes : List ℕ) where
       let l = subst (λ x. IsReachedSum x t) (ok_once (problem_of bytes) r.0 file r.1 f) r.2 in
       (l.0, l.1, all_mixed file (meant_valid bytes file f) safe l.0 l.2, l.3, l.4)
 
+  -- `trace` that ended Ok
+  pub traced : (left : Option (List ℕ)) (o : Outcome) (t : List ℕ) → left ≡ Some bytes → Means words verb.Trace → o ≡ variant.Ok → IsCalledFor words left o t
+      → (file : File) × (problem_of bytes ≡ Ok file) × IsTracedText file t
+  traced left o t e means ok h =
+      let k = subst (λ q. IsCalledFor words (Some bytes) q t) ok (known words left bytes o t e h) in
+      said (IsWalkReply IsTracedText) bytes variant.Ok t (λ f. omega (arith, f)) (trace_reply variant.Ok t means (λ f. omega (arith, f)) k)
+
   -- a walk that ended so
   ended : (P : File → Type 0) (o : Outcome) (t : List ℕ) → (status_of o ≡ 9 → ⊥) → (status_of o ≡ 3 → ⊥)
       → ((W : File → List ℕ → Type 0) (file : File) → IsWalkReply W file o t → P file) → IsWalking words → IsCalledFor words (Some bytes) o t
       → (file : File) × (problem_of bytes ≡ Ok file) × P file
-  ended P o t short form f (n, e, inl means) h = let s = said (IsWalkReply IsReachedListing) bytes o t form (list_reply n o t e means short h) in (s.0, s.1, f IsReachedListing s.0 s.2)
-  ended P o t short form f (n, e, inr means) h = let s = said (IsWalkReply IsReachedSum) bytes o t form (sum_reply n o t e means short h) in (s.0, s.1, f IsReachedSum s.0 s.2)
+  ended P o t short form f (inl (n, e, inl means)) h = let s = said (IsWalkReply IsReachedListing) bytes o t form (list_reply n o t e means short h) in (s.0, s.1, f IsReachedListing s.0 s.2)
+  ended P o t short form f (inl (n, e, inr means)) h = let s = said (IsWalkReply IsReachedSum) bytes o t form (sum_reply n o t e means short h) in (s.0, s.1, f IsReachedSum s.0 s.2)
+  ended P o t short form f (inr means) h = let s = said (IsWalkReply IsTracedText) bytes o t form (trace_reply o t means short h) in (s.0, s.1, f IsTracedText s.0 s.2)
 
   pub tie_cause : (proof : TieProof) (left : Option (List ℕ)) (o : Outcome) (t : List ℕ) → left ≡ Some bytes → IsWalking words → o ≡ variant.Tie proof → IsCalledFor words left o t
       → (file : File) × (problem_of bytes ≡ Ok file) × IsTreeTie file proof
@@ -194,12 +206,15 @@ module _ (words : List (List ℕ)) (bytes : List ℕ) where
       (subst (λ q. IsCalledFor words (Some bytes) q t) is (known words left bytes o t e h))
 
   walk_said : (file : File) (o : Outcome) (t : List ℕ) → length bytes ≤ limit → problem_of bytes ≡ Ok file → IsSafe file → TreeFits file → IsWalking words → IsCalledFor words (Some bytes) o t → o ≡ variant.Ok
-  walk_said file o t short f safe fits (n, e, inl means) h =
+  walk_said file o t short f safe fits (inl (n, e, inl means)) h =
       walk_ok IsReachedListing file (meant_valid bytes file f) safe fits o t (said_of (IsWalkReply IsReachedListing) bytes file o t f
       (alone_reply n IsReachedListing bytes o t e (reply_of (verb.List n) bytes o t short (answer_of words bytes (verb.List n) o t means h))))
-  walk_said file o t short f safe fits (n, e, inr means) h =
+  walk_said file o t short f safe fits (inl (n, e, inr means)) h =
       walk_ok IsReachedSum file (meant_valid bytes file f) safe fits o t (said_of (IsWalkReply IsReachedSum) bytes file o t f
       (alone_reply n IsReachedSum bytes o t e (reply_of (verb.Sum n) bytes o t short (answer_of words bytes (verb.Sum n) o t means h))))
+  walk_said file o t short f safe fits (inr means) h =
+      walk_ok IsTracedText file (meant_valid bytes file f) safe fits o t (said_of (IsWalkReply IsTracedText) bytes file o t f
+      (reply_of verb.Trace bytes o t short (answer_of words bytes verb.Trace o t means h)))
 
   -- a walk without a tie whose workings fit ends well, unless a free answer comes
   pub walked : (file : File) (result : Outcome) → length bytes ≤ limit → IsWalking words → problem_of bytes ≡ Ok file → IsSafe file → TreeFits file

@@ -8,7 +8,7 @@ use Rattle.listing_text.proofs.Formed.{listing_formed, listing_of_file}
 use Rattle.cell_certificate.specs.declared.verdict.Verdict.TheVariants.{Yes, No}
 use Rattle.cell_certificate.specs.declared.verdict.CheckFault.TheVariants.{Overflow, OutOfMemory}
 use Rattle.cell_certificate.specs.Judgements.{AllPass, FirstRefused}
-use Rattle.cell_certificate.specs.Answers.{Answer, HadMemory, IsAnswer, IsTooLarge, WrongAt, TooLargeAt}
+use Rattle.cell_certificate.specs.Answers.{Answer, HadMemory, IsAnswer, IsRight, IsWrong, IsTooLarge, WrongAt, TooLargeAt}
 use Rattle.cell_certificate.specs.Written.{AreListed, AreMixed}
 use Rattle.cell_certificate.proofs.OneAnswer.{yes_exactly, no_exactly, overflow_exactly}
 use Rattle.cell_certificate.proofs.MixedLines.{right_mixed}
@@ -17,29 +17,11 @@ use Rattle.mixedcells.specs.declared.outcome.Outcome.TheVariants as variant
 use Rattle.mixedcells.specs.Outcomes.{status_of}
 use Rattle.mixedcells.specs.Answers.{IsVerdictReply, IsListingText, IsCheckReply}
 use Rattle.mixedcells.specs.Runs.{IsVerdict}
+use Rattle.mixedcells.proofs.Judging.{outcome_of, judged_answer}
 use Rattle.mixedcells.proofs.Readings.{ok_once, err_once, not_both}
 
--- the outcome that tells an answer of the checker
-abbrev pub outcome_of : Answer → Outcome
-outcome_of (Ok Yes) = variant.Ok
-outcome_of (Ok (No line reason)) = variant.No line reason
-outcome_of (Err (Overflow line)) = variant.OverflowLine line
-outcome_of (Err OutOfMemory) = variant.OutOfMemory
-
 pub verdict_answer : (listing : Listing) (o : Outcome) (t : List ℕ) → IsVerdictReply listing o t → (r : Answer) × HadMemory r × IsAnswer listing r × (o ≡ outcome_of r)
-verdict_answer listing variant.Ok t h = (Ok Yes, tt, h.1, refl)
-verdict_answer listing (variant.No line reason) t h = (Ok (No line reason), tt, h.1, refl)
-verdict_answer listing (variant.OverflowLine line) t h = (Err (Overflow line), tt, h.1, refl)
-verdict_answer listing variant.Usage t h = absurd h
-verdict_answer listing (variant.Format line kind) t h = absurd h
-verdict_answer listing (variant.OverflowCell cell) t h = absurd h
-verdict_answer listing variant.ReadFault t h = absurd h
-verdict_answer listing variant.WriteFault t h = absurd h
-verdict_answer listing variant.OutOfMemory t h = absurd h
-verdict_answer listing variant.TooLong t h = absurd h
-verdict_answer listing (variant.TooMany choices) t h = absurd h
-verdict_answer listing (variant.Tie proof) t h = absurd h
-verdict_answer listing variant.NeedsTeam t h = absurd h
+verdict_answer listing o t h = judged_answer (IsRight listing) (IsWrong listing) (IsTooLarge listing) (IsAnswer listing) (λ a. a) (λ line reason a. a) (λ line a. a) o t h
 
 pub one_verdict : (listing : Listing) (r s : Answer) → HadMemory r → HadMemory s → IsAnswer listing r → IsAnswer listing s → r ≡ s
 one_verdict listing r (Ok Yes) m n a b = (yes_exactly listing r a m).1 b

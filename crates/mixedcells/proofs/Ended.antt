@@ -5,8 +5,9 @@ use Rattle.cayley.specs.Files.{File}
 use Rattle.edge_io.specs.Faults.{Rose}
 use Rattle.mixedcells.specs.Words.{HasMeaning, reads}
 use Rattle.mixedcells.specs.Outcomes.{status_of}
+use Rattle.mixedcells.specs.Logs.{IsTracedText}
 use Rattle.mixedcells.specs.Walks.{IsReachedListing, IsReachedSum, IsWalkReply, IsTieReply}
-use Rattle.mixedcells.specs.Answers.{IsReply, IsFileReply, IsListReply, IsAloneReply, IsCheckReply, IsPowersReply, IsMoveReply, IsSystemReply}
+use Rattle.mixedcells.specs.Answers.{IsReply, IsFileReply, IsListReply, IsAloneReply, IsCheckReply, IsPowersReply, IsMoveReply, IsLogReply, IsSystemReply}
 use Rattle.mixedcells.specs.Runs.{IsAnswer, IsInput, IsCalledFor, IsFree, IsCutOff, Finishes}
 use Rattle.mixedcells.specs.declared.words.Command.{Command}
 use Rattle.mixedcells.specs.declared.words.Command.TheVariants as verb
@@ -44,6 +45,8 @@ blind (verb.Sum n) xs ys o t e r = ⊎_elim (λ h. by_test (nat_le 2 n) h.0 e) i
 blind verb.Check xs ys o t e r = cc
 blind verb.Generic xs ys o t e r = cc
 blind verb.Move xs ys o t e r = cc
+blind verb.Trace xs ys o t e r = cc
+blind verb.Verify xs ys o t e r = cc
 blind verb.Powers xs ys o t e r = cc
 blind (verb.Poly seed) xs ys o t e r = cc
 blind (verb.Make family seed) xs ys o t e r = r
@@ -82,6 +85,10 @@ move_not_fault : (bytes t : List ℕ) → IsMoveReply bytes WriteFault t → ⊥
 move_not_fault bytes t (inl h) = h.3
 move_not_fault bytes t (inr h) = let e = ap status_of h.2.0 in omega (arith, e)
 
+log_not_fault : (bytes t : List ℕ) → IsLogReply bytes WriteFault t → ⊥
+log_not_fault bytes t (inl h) = h.2
+log_not_fault bytes t (inr h) = let e = ap status_of h.2.0 in omega (arith, e)
+
 system_not_fault : (seed : ℕ) (bytes t : List ℕ) → IsSystemReply seed bytes WriteFault t → ⊥
 system_not_fault seed bytes t (inl h) = let e = ap status_of h.2 in omega (arith, e)
 system_not_fault seed bytes t (inr h) = let e = ap status_of h.2.0 in omega (arith, e)
@@ -93,6 +100,8 @@ no_write_fault (verb.Sum n) bytes t r = alone_not_fault n IsReachedSum bytes t r
 no_write_fault verb.Check bytes t r = check_not_fault bytes t r
 no_write_fault verb.Generic bytes t r = file_not_fault IsTieReply bytes t (λ file k. k) r
 no_write_fault verb.Move bytes t r = move_not_fault bytes t r
+no_write_fault verb.Trace bytes t r = file_not_fault (IsWalkReply IsTracedText) bytes t (λ file k. k) r
+no_write_fault verb.Verify bytes t r = log_not_fault bytes t r
 no_write_fault verb.Powers bytes t r = powers_not_fault bytes t r
 no_write_fault (verb.Poly seed) bytes t r = system_not_fault seed bytes t r
 no_write_fault (verb.Make family seed) bytes t r = let f = ap status_of r.0 in omega (arith, f)

@@ -26,6 +26,7 @@ use Rattle.mixedcells.specs.declared.outcome.Outcome.{Outcome}
 use Rattle.mixedcells.specs.declared.outcome.Outcome.TheVariants as variant
 use Rattle.mixedcells.specs.Words.{Means}
 use Rattle.mixedcells.specs.Outcomes.{status_of}
+use Rattle.mixedcells.specs.Logs.{IsTracedText}
 use Rattle.mixedcells.specs.Walks.{IsReachedListing, IsReachedSum, IsWalkReply, IsTieReply}
 use Rattle.mixedcells.specs.Answers.{limit, IsListReply, IsFileReply, IsListingText, IsPlainReply, IsAloneReply, IsPowersReply, IsMadeReply, IsReply}
 use Rattle.mixedcells.specs.Runs.{IsAnswer, IsCalledFor, IsFree, IsWalkEnd, AreTiesOfOne, AreLoose}
@@ -34,6 +35,7 @@ use Rattle.mixedcells.proofs.Readings.{ok_once, err_once, not_both}
 use Rattle.mixedcells.proofs.Checks.{one_check_reply}
 use Rattle.mixedcells.proofs.Powered.{one_powers_reply}
 use Rattle.mixedcells.proofs.MoveReplies.{one_move_reply}
+use Rattle.mixedcells.proofs.LogReplies.{one_log_reply}
 use Rattle.mixedcells.proofs.SystemReplies.{one_system_reply}
 use Rattle.mixedcells.proofs.Teams.{unlike}
 
@@ -210,17 +212,21 @@ AreAlikeOf (verb.Sum n) o q = (nat_le 2 n ≡ false) × IsWalkEnd o × IsWalkEnd
 AreAlikeOf verb.Check o q = ⊥
 AreAlikeOf verb.Generic o q = AreTiesOfOne o q
 AreAlikeOf verb.Move o q = IsWalkEnd o × IsWalkEnd q
+AreAlikeOf verb.Trace o q = IsWalkEnd o × IsWalkEnd q
+AreAlikeOf verb.Verify o q = ⊥
 AreAlikeOf verb.Powers o q = ⊥
 AreAlikeOf (verb.Poly seed) o q = ⊥
 AreAlikeOf (verb.Make family seed) o q = ⊥
 
 loose_of : (words : List (List ℕ)) (command : Command) (o q : Outcome) → Means words command → AreAlikeOf command o q → AreLoose words o q
 loose_of words verb.Plain o q means a = absurd a
-loose_of words (verb.List n) o q means a = inl ((n, a.0, inl means), a.1, a.2)
-loose_of words (verb.Sum n) o q means a = inl ((n, a.0, inr means), a.1, a.2)
+loose_of words (verb.List n) o q means a = inl (inl (n, a.0, inl means), a.1, a.2)
+loose_of words (verb.Sum n) o q means a = inl (inl (n, a.0, inr means), a.1, a.2)
 loose_of words verb.Check o q means a = absurd a
 loose_of words verb.Generic o q means a = inr (inl (means, a))
 loose_of words verb.Move o q means a = inr (inr (means, a.0, a.1))
+loose_of words verb.Trace o q means a = inl (inr means, a.0, a.1)
+loose_of words verb.Verify o q means a = absurd a
 loose_of words verb.Powers o q means a = absurd a
 loose_of words (verb.Poly seed) o q means a = absurd a
 loose_of words (verb.Make family seed) o q means a = absurd a
@@ -234,6 +240,10 @@ one_alone_reply n W bytes o q t u (inl h) (inr k) = unlike (nat_le 2 n) h.0 k.0
 one_alone_reply n W bytes o q t u (inr h) (inl k) = unlike (nat_le 2 n) k.0 h.0
 one_alone_reply n W bytes o q t u (inr h) (inr k) = inl (h.1 ∙ sym k.1)
 
+one_walk_reply : (W : File → List ℕ → Type 0) (bytes : List ℕ) (o q : Outcome) (t u : List ℕ) → IsFileReply (IsWalkReply W) bytes o t → IsFileReply (IsWalkReply W) bytes q u
+    → (o ≡ q) ⊎ (IsWalkEnd o × IsWalkEnd q)
+one_walk_reply W bytes o q t u h k = one_file_reply (IsWalkReply W) (λ x y. IsWalkEnd x × IsWalkEnd y) (λ file x y v w a b. inr (walk_end W file x v a, walk_end W file y w b)) bytes o q t u h k
+
 one_reply : (command : Command) (bytes : List ℕ) (o q : Outcome) (t u : List ℕ) → IsReply command bytes o t → IsReply command bytes q u → (o ≡ q) ⊎ AreAlikeOf command o q
 one_reply verb.Plain bytes o q t u h k = one_file_reply IsListReply (λ x y. ⊥) (λ file x y v w a b. inl (one_list_reply file x y v w a b)) bytes o q t u h k
 one_reply (verb.List n) bytes o q t u h k = one_alone_reply n IsReachedListing bytes o q t u h k
@@ -241,6 +251,8 @@ one_reply (verb.Sum n) bytes o q t u h k = one_alone_reply n IsReachedSum bytes 
 one_reply verb.Check bytes o q t u h k = inl (one_check_reply bytes o q t u h k)
 one_reply verb.Generic bytes o q t u h k = one_file_reply IsTieReply AreTiesOfOne one_tie_reply bytes o q t u h k
 one_reply verb.Move bytes o q t u h k = one_move_reply bytes o q t u h k
+one_reply verb.Trace bytes o q t u h k = one_walk_reply IsTracedText bytes o q t u h k
+one_reply verb.Verify bytes o q t u h k = inl (one_log_reply bytes o q t u h k)
 one_reply verb.Powers bytes o q t u h k = inl (one_powers_reply bytes o q t u h k)
 one_reply (verb.Poly seed) bytes o q t u h k = inl (one_system_reply seed bytes o q t u h k)
 one_reply (verb.Make family seed) bytes o q t u h k = inl (h.0 ∙ sym k.0)

@@ -33,6 +33,8 @@ same_words (Some (verb.Sum n)) words f = other (nat_le 2 n) (codes "sum" ∷ [])
 same_words (Some verb.Check) words f = refl
 same_words (Some verb.Generic) words f = refl
 same_words (Some verb.Move) words f = refl
+same_words (Some verb.Trace) words f = refl
+same_words (Some verb.Verify) words f = refl
 same_words (Some verb.Powers) words f = refl
 same_words (Some (verb.Poly seed)) words f = refl
 same_words (Some (verb.Make family seed)) words f = refl
@@ -53,6 +55,8 @@ meant_by (Some verb.Plain) words c e means l = let same : verb.Plain ≡ c = cc 
 meant_by (Some verb.Check) words c e means l = let same : verb.Check ≡ c = cc in subst (λ d. Means words (by_one d)) same (subst (Means words) (sym same) means)
 meant_by (Some verb.Generic) words c e means l = let same : verb.Generic ≡ c = cc in subst (λ d. Means words (by_one d)) same (subst (Means words) (sym same) means)
 meant_by (Some verb.Move) words c e means l = let same : verb.Move ≡ c = cc in subst (λ d. Means words (by_one d)) same (subst (Means words) (sym same) means)
+meant_by (Some verb.Trace) words c e means l = let same : verb.Trace ≡ c = cc in subst (λ d. Means words (by_one d)) same (subst (Means words) (sym same) means)
+meant_by (Some verb.Verify) words c e means l = let same : verb.Verify ≡ c = cc in subst (λ d. Means words (by_one d)) same (subst (Means words) (sym same) means)
 meant_by (Some verb.Powers) words c e means l = let same : verb.Powers ≡ c = cc in subst (λ d. Means words (by_one d)) same (subst (Means words) (sym same) means)
 meant_by (Some (verb.Poly seed)) words c e means l = let same : verb.Poly seed ≡ c = cc in subst (λ d. Means words (by_one d)) same (subst (Means words) (sym same) means)
 meant_by (Some (verb.Make f s)) words c e means l = let same : verb.Make f s ≡ c = cc in subst (λ d. Means words (by_one d)) same (subst (Means words) (sym same) means)
@@ -73,8 +77,9 @@ pub one_means : (words : List Text) (c : Command) → Means words c → Means (f
 one_means words c means = meant_by (command_for words) words c means means (searchers_fit words c means).0
 
 pub walking : (words : List Text) → IsJourney words → IsWalking (for_one words)
-walking words (n, inl means) = (1, refl, inl (one_means words (verb.List n) means))
-walking words (n, inr means) = (1, refl, inr (one_means words (verb.Sum n) means))
+walking words (inl (n, inl means)) = inl (1, refl, inl (one_means words (verb.List n) means))
+walking words (inl (n, inr means)) = inl (1, refl, inr (one_means words (verb.Sum n) means))
+walking words (inr means) = inr (one_means words verb.Trace means)
 
 pub called_back : (words : List Text) → for_one words ≡ words → (left : Option (List ℕ)) (o : Outcome) (text : List ℕ) → IsCalledFor words left o text → IsCalledFor (for_one words) left o text
 called_back words e left o text h = subst (λ v. IsCalledFor v left o text) (sym e) h
@@ -87,6 +92,8 @@ alone_by (verb.Sum n) = refl
 alone_by verb.Check = refl
 alone_by verb.Generic = refl
 alone_by verb.Move = refl
+alone_by verb.Trace = refl
+alone_by verb.Verify = refl
 alone_by verb.Powers = refl
 alone_by (verb.Poly seed) = refl
 alone_by (verb.Make family seed) = refl
@@ -114,6 +121,8 @@ reads_by_one (verb.Sum n) h = refl
 reads_by_one verb.Check h = cc
 reads_by_one verb.Generic h = cc
 reads_by_one verb.Move h = cc
+reads_by_one verb.Trace h = cc
+reads_by_one verb.Verify h = cc
 reads_by_one verb.Powers h = cc
 reads_by_one (verb.Poly seed) h = cc
 reads_by_one (verb.Make family seed) h = cc

@@ -1,9 +1,11 @@
 mod CommandLine
 mod Ended
 mod Readings
+mod Judging
 mod Checks
 mod Powered
 mod SystemReplies
+mod LogReplies
 mod MoveReplies
 mod Moved
 mod Exact
@@ -13,6 +15,8 @@ mod Spared
 mod Judged
 mod Walking
 mod AlongPaths
+mod WrittenLogs
+mod Verified
 mod Teams
 mod ForOne
 mod QuietFiles

@@ -40,7 +40,8 @@ use Rattle.mixedcells.specs.Journeys.{TellsCause}
 use Rattle.mixedcells.specs.Moving.{segment_of, target_of, listed_cells, AreMovedCells, IsMovedReply}
 use Rattle.mixedcells.specs.Answers.{IsMoveReply}
 use Rattle.mixedcells.specs.Runs.{IsWalkEnd}
-use Rattle.mixedcells.proofs.Checks.{outcome_of, one_verdict, read_of, same_answer}
+use Rattle.mixedcells.proofs.Judging.{outcome_of}
+use Rattle.mixedcells.proofs.Checks.{one_verdict, read_of, same_answer}
 use Rattle.mixedcells.proofs.Readings.{ok_once, err_once, not_both}
 
 -- ---- one reply

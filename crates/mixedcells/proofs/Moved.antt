@@ -35,7 +35,8 @@ use Rattle.mixedcells.specs.Outcomes.{status_of}
 use Rattle.mixedcells.specs.Moving.{segment_of, target_of, listed_cells, AreMovedCells, IsMovedListing, IsMoveTie, IsMoveUnfit, IsMovedReply, IsFull, IsGenericMove, MoveFits}
 use Rattle.mixedcells.specs.Answers.{limit, IsMoveText, IsMoveReply}
 use Rattle.mixedcells.specs.Runs.{IsCalledFor, IsFree}
-use Rattle.mixedcells.proofs.Checks.{outcome_of, one_verdict, read_of, same_answer}
+use Rattle.mixedcells.proofs.Judging.{outcome_of}
+use Rattle.mixedcells.proofs.Checks.{one_verdict, read_of, same_answer}
 use Rattle.mixedcells.proofs.Readings.{ok_once, not_both}
 use Rattle.mixedcells.proofs.Exact.{answer_of, reply_of, reply_not_long, free_or, known}
 

@@ -12,7 +12,8 @@ use Rattle.homotopy_rows.proofs.FlatLines.{one_first}
 use Rattle.mixedcells.specs.declared.outcome.Outcome.{Outcome}
 use Rattle.mixedcells.specs.declared.outcome.Outcome.TheVariants as variant
 use Rattle.mixedcells.specs.Answers.{HasNoFlat, IsRowsReply, IsPowersReply}
-use Rattle.mixedcells.proofs.Checks.{outcome_of, one_verdict, read_of, same_answer}
+use Rattle.mixedcells.proofs.Judging.{outcome_of}
+use Rattle.mixedcells.proofs.Checks.{one_verdict, read_of, same_answer}
 use Rattle.mixedcells.proofs.Readings.{ok_once, err_once, not_both}
 
 -- the outcome that tells an answer of the checker, and the first flat line if there is one

@@ -34,8 +34,9 @@ use Rattle.mixedcells.specs.declared.outcome.Outcome.{Outcome}
 use Rattle.mixedcells.specs.declared.outcome.Outcome.TheVariants as variant
 use Rattle.mixedcells.specs.Words.{Means}
 use Rattle.mixedcells.specs.Outcomes.{status_of}
+use Rattle.mixedcells.specs.Logs.{IsTracedText}
 use Rattle.mixedcells.specs.Walks.{TreeFits, IsReachedListing, IsReachedSum, IsWalkReply, IsTieReply}
-use Rattle.mixedcells.specs.Answers.{limit, IsListReply, IsFileReply, IsAloneReply, IsListingText, IsCheckReply, IsPowersReply, IsMoveReply, IsSystemReply, IsReply}
+use Rattle.mixedcells.specs.Answers.{limit, IsListReply, IsFileReply, IsAloneReply, IsListingText, IsCheckReply, IsPowersReply, IsMoveReply, IsLogReply, IsSystemReply, IsReply}
 use Rattle.mixedcells.specs.Runs.{IsAnswer, IsCalledFor, IsFree, IsWrittenListing, IsSpared, Passes, Finishes}
 use Rattle.mixedcells.proofs.Checks.{read_of}
 use Rattle.mixedcells.proofs.MoveReplies.{not_a_problem}
@@ -98,6 +99,10 @@ powers_fit : (bytes t : List ℕ) (cell : Cell) → IsPowersReply bytes (variant
 powers_fit bytes t cell (inl h) = h.2
 powers_fit bytes t cell (inr h) = let e = ap status_of h.2.0 in omega (arith, e)
 
+log_fits : (bytes t : List ℕ) (cell : Cell) → IsLogReply bytes (variant.OverflowCell cell) t → ⊥
+log_fits bytes t cell (inl h) = h.2
+log_fits bytes t cell (inr h) = let e = ap status_of h.2.0 in omega (arith, e)
+
 system_fits : (seed : ℕ) (bytes t : List ℕ) (cell : Cell) → IsSystemReply seed bytes (variant.OverflowCell cell) t → ⊥
 system_fits seed bytes t cell (inl h) = let e = ap status_of h.2 in omega (arith, e)
 system_fits seed bytes t cell (inr h) = let e = ap status_of h.2.0 in omega (arith, e)
@@ -124,6 +129,8 @@ module _ (bytes : List ℕ) (file : File) (means : problem_of bytes ≡ Ok file)
   reply_fits verb.Check t cell r = check_fits bytes t cell r
   reply_fits verb.Generic t cell r = let h = said_of IsTieReply bytes file (variant.OverflowCell cell) t means r in h.3 (all_path_fit file valid_file quiet cell h.2.0.0)
   reply_fits verb.Move t cell r = move_fits t cell r
+  reply_fits verb.Trace t cell r = walk_fits IsTracedText t cell r
+  reply_fits verb.Verify t cell r = log_fits bytes t cell r
   reply_fits verb.Powers t cell r = powers_fit bytes t cell r
   reply_fits (verb.Poly seed) t cell r = system_fits seed bytes t cell r
   reply_fits (verb.Make family seed) t cell r = let e = ap status_of r.0 in omega (arith, e)

@@ -56,7 +56,8 @@ use Rattle.mixedcells.specs.Walks.{AreReachedCells, IsReachedListing}
 use Rattle.mixedcells.specs.Answers.{limit, IsPlainReply, IsListingText, IsCheckReply}
 use Rattle.mixedcells.specs.Runs.{AreWrittenCells, IsWrittenListing, IsSpared}
 use Rattle.mixedcells.proofs.Readings.{ok_once, not_both}
-use Rattle.mixedcells.proofs.Checks.{outcome_of, verdict_answer, read_of, are_listed}
+use Rattle.mixedcells.proofs.Judging.{outcome_of}
+use Rattle.mixedcells.proofs.Checks.{verdict_answer, read_of, are_listed}
 use Rattle.mixedcells.proofs.FileWorkings.{plain_fits}
 use Rattle.mixedcells.proofs.Walking.{points_same}
 
@@ -79,10 +80,10 @@ fits_working p cell well of h = (
 entry_within : (k : ℕ) (z : ℤ) → unsigned_abs z < suc k → (neg_ℤ (pos k) ≤ℤ z) × (z ≤ℤ pos k)
 entry_within k z h = (omega (arith, ints, h), omega (arith, ints, h))
 
-entry_of : (z : ℤ) → FitsWhole z → IsEntry z
+pub entry_of : (z : ℤ) → FitsWhole z → IsEntry z
 entry_of z f = entry_within (2 ^ 127 - 1) z f
 
-over_of : (z : ℤ) → FitsWhole z → pos 0 <ℤ z → (pos 1 ≤ℤ z) × (z ≤ℤ pos (2 ^ 127 - 1))
+pub over_of : (z : ℤ) → FitsWhole z → pos 0 <ℤ z → (pos 1 ≤ℤ z) × (z ≤ℤ pos (2 ^ 127 - 1))
 over_of z f h = (omega (arith, ints, h), (entry_of z f).1)
 
 cell_of_file : (supports : List (List FilePoint)) (cell : Cell) → EachPair (map (map resting) supports) cell (λ s a b. (1 ≤ a) × (a < b) × (b ≤ length s)) → IsCellOf (map length supports) cell
@@ -134,7 +135,7 @@ module _ (file : File) (valid : IsValidFile file) where
         den = over_of den fit.0 n.0;
       }
 
-  each_formed : (found : List FoundCell) → Each found (λ (x : FoundCell). IsMixedCell (plain_problem file) x.cell)
+  pub each_formed : (found : List FoundCell) → Each found (λ (x : FoundCell). IsMixedCell (plain_problem file) x.cell)
       → Each found (λ (x : FoundCell). IsLowestNormal (plain_problem file) x.cell x.normal.v x.normal.den) → Each found (λ (x : FoundCell). FitsWallWorking (plain_problem file) x.cell)
       → Each found (IsFormed (counts_of file))
   each_formed [] m n fit = tt
@@ -175,7 +176,7 @@ module _ (file : File) (valid : IsValidFile file) where
   all_plain_fit [] m w = tt
   all_plain_fit (x ∷ found) m w = (plain_fits file valid x.cell m.0.0 w.0, all_plain_fit found m.1 w.1)
 
-  reached_cells : (found : List FoundCell) → AreReachedCells file found → AreWrittenCells file found
+  pub reached_cells : (found : List FoundCell) → AreReachedCells file found → AreWrittenCells file found
   reached_cells found r =
       let P = IsMixedCell (path file) in
       let mixed = each_unmap (λ (x : FoundCell). x.cell) P found (each_contained P (map (λ (x : FoundCell). x.cell) found) (λ cell c. ((r.cells.1 cell).0 c).1)) in
@@ -213,7 +214,7 @@ spared_answer bytes listing text (Err (Overflow line)) m s o e = inr (inl (listi
 spared_answer bytes listing text (Err OutOfMemory) m s o e = absurd m
 
 -- each line takes a byte
-lines_long : (lines : List (List Text)) → length lines ≤ length (text_of lines)
+pub lines_long : (lines : List (List Text)) → length lines ≤ length (text_of lines)
 lines_long [] = omega arith
 lines_long (ws ∷ lines) =
     let a = lines_long lines in

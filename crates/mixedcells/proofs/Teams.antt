@@ -8,8 +8,9 @@ use Rattle.mixedcells.specs.declared.outcome.Outcome.{Outcome}
 use Rattle.mixedcells.specs.declared.outcome.Outcome.TheVariants as variant
 use Rattle.mixedcells.specs.Words.{Means, HasMeaning, IsReading, IsForTeam, IsWalking, needs_team, reads}
 use Rattle.mixedcells.specs.Outcomes.{status_of}
+use Rattle.mixedcells.specs.Logs.{IsTracedText}
 use Rattle.mixedcells.specs.Walks.{IsReachedListing, IsReachedSum, IsWalkReply, IsTieReply}
-use Rattle.mixedcells.specs.Answers.{IsReply, IsFileReply, IsListReply, IsAloneReply, IsCheckReply, IsPowersReply, IsMoveReply, IsSystemReply}
+use Rattle.mixedcells.specs.Answers.{IsReply, IsFileReply, IsListReply, IsAloneReply, IsCheckReply, IsPowersReply, IsMoveReply, IsLogReply, IsSystemReply}
 use Rattle.mixedcells.specs.Runs.{IsAnswer, IsCalledFor, Finishes}
 use Rattle.mixedcells.proofs.CommandLine.Words.{one_meaning, team_of}
 
@@ -25,6 +26,8 @@ team_reply (verb.Sum n) bytes h = inr (h, refl, refl)
 team_reply verb.Check bytes h = cc
 team_reply verb.Generic bytes h = cc
 team_reply verb.Move bytes h = cc
+team_reply verb.Trace bytes h = cc
+team_reply verb.Verify bytes h = cc
 team_reply verb.Powers bytes h = cc
 team_reply (verb.Poly seed) bytes h = cc
 team_reply (verb.Make family seed) bytes h = cc
@@ -36,6 +39,8 @@ team_unread (verb.Sum n) h = ap not h
 team_unread verb.Check h = cc
 team_unread verb.Generic h = cc
 team_unread verb.Move h = cc
+team_unread verb.Trace h = cc
+team_unread verb.Verify h = cc
 team_unread verb.Powers h = cc
 team_unread (verb.Poly seed) h = cc
 team_unread (verb.Make family seed) h = cc
@@ -54,8 +59,9 @@ pub no_other : {P : Type 0} (words : List (List ℕ)) (c d : Command) → Means 
 no_other words c d means h e other = unlike (needs_team d) e (subst (λ x. IsTrue (needs_team x)) (one_meaning words c d means other) h)
 
 pub no_walk : {P : Type 0} (words : List (List ℕ)) (c : Command) → Means words c → IsTrue (needs_team c) → IsWalking words → P
-no_walk words c means h (n, e, inl other) = no_other words c (verb.List n) means h e other
-no_walk words c means h (n, e, inr other) = no_other words c (verb.Sum n) means h e other
+no_walk words c means h (inl (n, e, inl other)) = no_other words c (verb.List n) means h e other
+no_walk words c means h (inl (n, e, inr other)) = no_other words c (verb.Sum n) means h e other
+no_walk words c means h (inr other) = no_other words c verb.Trace means h refl other
 
 pub no_reading : {P : Type 0} (words : List (List ℕ)) (c : Command) → Means words c → IsTrue (needs_team c) → IsReading words → P
 no_reading words c means h r =
@@ -85,6 +91,10 @@ move_alone : {P : Type 0} (bytes t : List ℕ) → IsMoveReply bytes variant.Nee
 move_alone bytes t (inl h) = absurd h.3
 move_alone bytes t (inr h) = absurd (let e = ap status_of h.2.0 in omega (arith, e))
 
+log_alone : {P : Type 0} (bytes t : List ℕ) → IsLogReply bytes variant.NeedsTeam t → P
+log_alone bytes t (inl h) = absurd h.2
+log_alone bytes t (inr h) = absurd (let e = ap status_of h.2.0 in omega (arith, e))
+
 system_alone : {P : Type 0} (seed : ℕ) (bytes t : List ℕ) → IsSystemReply seed bytes variant.NeedsTeam t → P
 system_alone seed bytes t (inl h) = absurd (let e = ap status_of h.2 in omega (arith, e))
 system_alone seed bytes t (inr h) = absurd (let e = ap status_of h.2.0 in omega (arith, e))
@@ -96,6 +106,8 @@ replies_team (verb.Sum n) bytes t r = walk_team n IsReachedSum bytes t r
 replies_team verb.Check bytes t r = check_alone bytes t r
 replies_team verb.Generic bytes t r = file_alone IsTieReply bytes t (λ file k. k) r
 replies_team verb.Move bytes t r = move_alone bytes t r
+replies_team verb.Trace bytes t r = file_alone (IsWalkReply IsTracedText) bytes t (λ file k. k) r
+replies_team verb.Verify bytes t r = log_alone bytes t r
 replies_team verb.Powers bytes t r = powers_alone bytes t r
 replies_team (verb.Poly seed) bytes t r = system_alone seed bytes t r
 replies_team (verb.Make family seed) bytes t r = absurd (let e = ap status_of r.0 in omega (arith, e))
@@ -121,5 +133,6 @@ pub meant_team : {P : Type 0} (words : List (List ℕ)) → ¬ (HasMeaning words
 meant_team words none t = absurd (none (t.0, t.1))
 
 pub walking_meant : (words : List (List ℕ)) → IsWalking words → HasMeaning words
-walking_meant words (n, e, inl means) = (verb.List n, means)
-walking_meant words (n, e, inr means) = (verb.Sum n, means)
+walking_meant words (inl (n, e, inl means)) = (verb.List n, means)
+walking_meant words (inl (n, e, inr means)) = (verb.Sum n, means)
+walking_meant words (inr means) = (verb.Trace, means)

@@ -33,6 +33,8 @@ use Rattle.searcher.specs.Workings.{FitsWorking}
 use Rattle.searcher.specs.Branches.{branch_of}
 use Rattle.searcher.specs.Searches.{IsFound, IsStopped, IsLeft, IsOfLeft, FindsShare, FindsSize}
 use Rattle.listing_text.specs.Listings.{AreMixedCells}
+use Rattle.path_trace.specs.declared.trace.Trace.{Trace}
+use Rattle.path_tracer.specs.Traced.{IsTraced}
 use Rattle.cell_certificate.proofs.PlainPoints.{own_points}
 use Rattle.mixedcells.specs.Walks.{IsSafe, AreReached, AreReachedCells}
 use Rattle.search_team.specs.PathSearches.{IsWalked, IsHalted}
@@ -112,7 +114,7 @@ module _ (file : File) (valid : IsValidFile file) where
   pub points_same : file_points (path file) ≡ file_points (plain_problem file)
   points_same = (path_law file valid).2 ∙ sym (own_points file valid)
 
-  lowest_plain : (x : FoundCell) → HasLowestNormal (path file) x → IsLowestNormal (plain_problem file) x.cell x.normal.v x.normal.den
+  pub lowest_plain : (x : FoundCell) → HasLowestNormal (path file) x → IsLowestNormal (plain_problem file) x.cell x.normal.v x.normal.den
   lowest_plain x n = (n.0, n.1, (n.2.0, subst (λ q. IsNormal q x.cell time_zero n.2.0) points_same n.2.1, n.2.2))
 
   pub file_walked : (p : Problem) → p ≡ path file → (found : Found) → IsWalked p found → HasWalked file found
@@ -142,6 +144,10 @@ module _ (file : File) (valid : IsValidFile file) where
   pub file_count : (p : Problem) → p ≡ path file → (r : Result Counted HaltCause) → MatchResult r (IsPathCount p) (IsHalted p) → MatchResult r (HasCounted file) (HasHalted file)
   file_count p e (Ok counted) h = subst (λ q. IsPathCount q counted) e h
   file_count p e (Err cause) h = file_halted p e cause h
+
+  pub file_trace : (p : Problem) → p ≡ path file → (r : Result Trace HaltCause) → MatchResult r (IsTraced p) (IsHalted p) → MatchResult r (IsTraced (path file)) (HasHalted file)
+  file_trace p e (Ok trace) h = subst (λ q. IsTraced q trace) e h
+  file_trace p e (Err cause) h = file_halted p e cause h
 
   -- ---- a path without a tie
   pub free_of : IsSafe file → IsTieFree (path file)

@@ -12,6 +12,8 @@ use Rattle.poly_text.specs.SystemText.{PointSystem, system_of}
 use Rattle.homotopy_rows.specs.Answers.{IsPowersText}
 use Rattle.homotopy_rows.specs.Flat.{FirstFlat}
 use Rattle.lift_move.specs.MoveText.{move_of}
+use Rattle.path_log.specs.declared.log.PathLog.{PathLog}
+use Rattle.path_log.specs.LogText.{log_of}
 use Rattle.plain_lister.specs.Choices.{HasTooMany, IsExcess}
 use Rattle.plain_lister.specs.Lists.{AllFit, IsFirstUnfit}
 use Rattle.mixedcells.specs.declared.words.meaning.Family.{Family}
@@ -21,7 +23,9 @@ use Rattle.mixedcells.specs.declared.outcome.Outcome.{Outcome}
 use Rattle.mixedcells.specs.declared.outcome.Outcome.TheVariants as variant
 use Rattle.mixedcells.specs.Families.{family_file, lifted_text}
 use Rattle.mixedcells.specs.Walks.{IsReachedListing, IsReachedSum, IsWalkReply, IsTieReply}
+use Rattle.mixedcells.specs.Judging.{IsJudgedAs}
 use Rattle.mixedcells.specs.Moving.{IsMovedReply}
+use Rattle.mixedcells.specs.Logs.{IsTracedText, IsLogText, IsJudgedLog}
 use Rattle.mixedcells.specs.Outcomes.{yes_line, format_line, no_line, overflow_line, too_many_line, overflow_cell}
 
 -- the longest input that is read
@@ -70,19 +74,7 @@ IsGenericReply = IsFileReply IsTieReply
 
 -- what is said of a listing: every line passes, or the first that doesn't, with the reason or for a number that doesn't fit
 abbrev pub IsVerdictReply : Listing → Outcome → List ℕ → Type 0
-IsVerdictReply listing variant.Ok text = (text ≡ yes_line) × IsRight listing
-IsVerdictReply listing (variant.No line reason) text = (text ≡ no_line line reason) × IsWrong listing line reason
-IsVerdictReply listing (variant.OverflowLine line) text = (text ≡ overflow_line line) × IsTooLarge listing line
-IsVerdictReply listing variant.Usage text = ⊥
-IsVerdictReply listing (variant.Format line kind) text = ⊥
-IsVerdictReply listing (variant.OverflowCell cell) text = ⊥
-IsVerdictReply listing variant.ReadFault text = ⊥
-IsVerdictReply listing variant.WriteFault text = ⊥
-IsVerdictReply listing variant.OutOfMemory text = ⊥
-IsVerdictReply listing variant.TooLong text = ⊥
-IsVerdictReply listing (variant.TooMany choices) text = ⊥
-IsVerdictReply listing (variant.Tie proof) text = ⊥
-IsVerdictReply listing variant.NeedsTeam text = ⊥
+IsVerdictReply listing = IsJudgedAs (IsRight listing) (IsWrong listing) (IsTooLarge listing)
 
 -- the bytes mean this listing
 abbrev pub IsListingText : List ℕ → Listing → Type 0
@@ -134,6 +126,12 @@ IsMoveReply bytes outcome text =
     ((listing : Listing) × (second : List (List ℤ)) × IsMoveText bytes listing second × IsMovedReply listing second outcome text)
     ⊎ ((fault : FormatFault) × (move_of bytes ≡ Err fault) × TellsFault fault outcome text)
 
+-- what `verify` replies: what is said of the log that the bytes mean, or their first fault
+abbrev pub IsLogReply : List ℕ → Outcome → List ℕ → Type 0
+IsLogReply bytes outcome text =
+    ((log : PathLog) × IsLogText bytes log × IsJudgedLog log outcome text)
+    ⊎ ((fault : FormatFault) × (log_of bytes ≡ Err fault) × TellsFault fault outcome text)
+
 -- what `poly` replies: the canonical text of the file that lifts the system which the bytes mean, or their first fault
 abbrev pub IsSystemReply : ℕ → List ℕ → Outcome → List ℕ → Type 0
 IsSystemReply seed bytes outcome text =
@@ -151,6 +149,8 @@ IsReply (verb.List searchers) bytes outcome text = IsAloneReply searchers IsReac
 IsReply (verb.Sum searchers) bytes outcome text = IsAloneReply searchers IsReachedSum bytes outcome text
 IsReply verb.Generic bytes outcome text = IsGenericReply bytes outcome text
 IsReply verb.Move bytes outcome text = IsMoveReply bytes outcome text
+IsReply verb.Trace bytes outcome text = IsFileReply (IsWalkReply IsTracedText) bytes outcome text
+IsReply verb.Verify bytes outcome text = IsLogReply bytes outcome text
 IsReply verb.Check bytes outcome text = IsCheckReply bytes outcome text
 IsReply verb.Powers bytes outcome text = IsPowersReply bytes outcome text
 IsReply (verb.Poly seed) bytes outcome text = IsSystemReply seed bytes outcome text

@@ -13,6 +13,8 @@ by_one (verb.Sum searchers) = verb.Sum 1
 by_one verb.Check = verb.Check
 by_one verb.Generic = verb.Generic
 by_one verb.Move = verb.Move
+by_one verb.Trace = verb.Trace
+by_one verb.Verify = verb.Verify
 by_one verb.Powers = verb.Powers
 by_one (verb.Poly seed) = verb.Poly seed
 by_one (verb.Make family seed) = verb.Make family seed
@@ -25,6 +27,8 @@ searchers_of (verb.Sum searchers) = searchers
 searchers_of verb.Check = 1
 searchers_of verb.Generic = 1
 searchers_of verb.Move = 1
+searchers_of verb.Trace = 1
+searchers_of verb.Verify = 1
 searchers_of verb.Powers = 1
 searchers_of (verb.Poly seed) = 1
 searchers_of (verb.Make family seed) = 1
@@ -41,4 +45,4 @@ for_one words = words_by_one (command_for words) words
 
 -- the words ask for a walk along a path, by any number of searchers
 abbrev pub IsJourney : List Text → Type 0
-IsJourney words = (searchers : ℕ) × (Means words (verb.List searchers) ⊎ Means words (verb.Sum searchers))
+IsJourney words = ((searchers : ℕ) × (Means words (verb.List searchers) ⊎ Means words (verb.Sum searchers))) ⊎ Means words verb.Trace

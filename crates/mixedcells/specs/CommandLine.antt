@@ -48,6 +48,9 @@ generic_line = with_subcommand powers_line (bare (codes "generic"))
 abbrev pub moving_line : App
 moving_line = with_subcommand generic_line (bare (codes "move"))
 
+abbrev pub logging_line : App
+logging_line = with_subcommand (with_subcommand moving_line (bare (codes "trace"))) (bare (codes "verify"))
+
 abbrev pub system_app : App
 system_app = with_rule (new_app (codes "poly")) (option_named (codes "seed"))
 
@@ -55,7 +58,7 @@ abbrev pub system : Shape
 system = system_app.top
 
 abbrev pub system_line : App
-system_line = with_subcommand moving_line system
+system_line = with_subcommand logging_line system
 
 abbrev pub top : App
 top = with_subcommand (with_subcommand system_line (searching (codes "list"))) (searching (codes "sum"))

@@ -5,7 +5,9 @@ pub mod CommandLine
 pub mod Families
 pub mod Outcomes
 pub mod Walks
+pub mod Judging
 pub mod Moving
+pub mod Logs
 pub mod Journeys
 pub mod Answers
 pub mod Runs

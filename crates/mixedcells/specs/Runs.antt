@@ -13,12 +13,15 @@ use Rattle.listing_text.specs.declared.listing.Listing.{Listing}
 use Rattle.listing_text.specs.Writing.{listing_text}
 use Rattle.cell_certificate.specs.Written.{IsOwnTooLarge}
 use Rattle.cone_walls.specs.Workings.{FitsWallWorking}
+use Rattle.path_log.specs.declared.log.PathLog.{PathLog}
+use Rattle.log_check.specs.Verdicts.{IsTooLargeLog}
 use Rattle.mixedcells.specs.declared.words.Command.{Command}
 use Rattle.mixedcells.specs.declared.words.Command.TheVariants as verb
 use Rattle.mixedcells.specs.declared.outcome.Outcome.{Outcome}
 use Rattle.mixedcells.specs.declared.outcome.Outcome.TheVariants as variant
 use Rattle.mixedcells.specs.Words.{Means, HasMeaning, IsWalking, reads}
 use Rattle.mixedcells.specs.Outcomes.{usage_line, too_long_line}
+use Rattle.mixedcells.specs.Logs.{IsLogText}
 use Rattle.mixedcells.specs.Answers.{limit, IsListingText, IsReply}
 
 -- the input is longer than a command reads
@@ -95,6 +98,12 @@ IsSpared bytes outcome = (outcome ≡ variant.Ok)
 -- every line passes, or the listing is longer than what is read
 abbrev pub Passes : List ℕ → Outcome → Type 0
 Passes bytes outcome = (outcome ≡ variant.Ok) ⊎ ((limit < length bytes) × (outcome ≡ variant.TooLong))
+
+-- the log passes, or a number that it asks for doesn't fit, or it is longer than what is read; it is never refused for a reason
+abbrev pub IsSparedLog : List ℕ → Outcome → Type 0
+IsSparedLog bytes outcome = (outcome ≡ variant.Ok)
+    ⊎ ((log : PathLog) × (line : ℕ) × IsLogText bytes log × IsTooLargeLog log line × (outcome ≡ variant.OverflowLine line))
+    ⊎ ((limit < length bytes) × (outcome ≡ variant.TooLong))
 
 -- how many bytes of the source were taken: at most the limit and one more; exactly that where the input is too long, and at most the limit where a read failed
 pub record TakesNoMore (old new : Option (List ℕ)) (outcome : Outcome) : Type 0 where

@@ -133,6 +133,8 @@ meaning_after w ws =
     else if bytes_eq w (codes "powers") then alone meaning.Powers ws
     else if bytes_eq w (codes "generic") then alone meaning.Generic ws
     else if bytes_eq w (codes "move") then alone meaning.Move ws
+    else if bytes_eq w (codes "trace") then alone meaning.Trace ws
+    else if bytes_eq w (codes "verify") then alone meaning.Verify ws
     else if bytes_eq w (codes "poly") then option_map meaning.Poly (system_seed ws)
     else if bytes_eq w (codes "list") then option_map meaning.List (searchers ws)
     else if bytes_eq w (codes "sum") then option_map meaning.Sum (searchers ws)
@@ -154,6 +156,8 @@ built (meaning.Sum searchers) = Some (verb.Sum searchers)
 built meaning.Check = Some verb.Check
 built meaning.Generic = Some verb.Generic
 built meaning.Move = Some verb.Move
+built meaning.Trace = Some verb.Trace
+built meaning.Verify = Some verb.Verify
 built meaning.Powers = Some verb.Powers
 built (meaning.Poly seed) = Some (verb.Poly seed)
 built (meaning.Make family seed) = Some (verb.Make family seed)
@@ -176,6 +180,8 @@ needs_team (verb.Sum searchers) = nat_le 2 searchers
 needs_team verb.Check = false
 needs_team verb.Generic = false
 needs_team verb.Move = false
+needs_team verb.Trace = false
+needs_team verb.Verify = false
 needs_team verb.Powers = false
 needs_team (verb.Poly seed) = false
 needs_team (verb.Make family seed) = false
@@ -188,6 +194,8 @@ reads (verb.Sum searchers) = not (nat_le 2 searchers)
 reads verb.Check = true
 reads verb.Generic = true
 reads verb.Move = true
+reads verb.Trace = true
+reads verb.Verify = true
 reads verb.Powers = true
 reads (verb.Poly seed) = true
 reads (verb.Make family seed) = false
@@ -198,7 +206,7 @@ IsForTeam words = (command : Command) × Means words command × IsTrue (needs_te
 
 -- the words ask one searcher to walk along a path
 abbrev pub IsWalking : List Text → Type 0
-IsWalking words = (searchers : ℕ) × (nat_le 2 searchers ≡ false) × (Means words (verb.List searchers) ⊎ Means words (verb.Sum searchers))
+IsWalking words = ((searchers : ℕ) × (nat_le 2 searchers ≡ false) × (Means words (verb.List searchers) ⊎ Means words (verb.Sum searchers))) ⊎ Means words verb.Trace
 
 -- the words ask for a command that reads its input
 abbrev pub IsReading : List Text → Type 0
@@ -226,6 +234,8 @@ meaning_read r =
     else if bytes_eq r.name (codes "powers") then Some meaning.Powers
     else if bytes_eq r.name (codes "generic") then Some meaning.Generic
     else if bytes_eq r.name (codes "move") then Some meaning.Move
+    else if bytes_eq r.name (codes "trace") then Some meaning.Trace
+    else if bytes_eq r.name (codes "verify") then Some meaning.Verify
     else if bytes_eq r.name (codes "poly") then option_map meaning.Poly (seed_read r.seed)
     else if bytes_eq r.name (codes "list") then option_map meaning.List (searchers_read r.searchers)
     else if bytes_eq r.name (codes "sum") then option_map meaning.Sum (searchers_read r.searchers)

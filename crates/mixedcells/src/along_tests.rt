@@ -18,7 +18,7 @@ const PERTURBED_SQUARES: &[u8] =
 const MOVED_STARTED_SQUARES: &[u8] =
     b"mixedcells 1\ndim 2\nsupport 4\n-3 2 : 3\n-2 2 : 10\n-3 3 : 20\n-2 3 : 90\nsupport 4\n-3 2 : 5\n-2 2 : 40\n-3 3 : 9\n-2 3 : 1\nstart 100\nstart 100\nend\n";
 
-const TWO_LEVEL: &[u8] = b"mixedcells 1\ndim 1\nsupport 2\n0 : 7\n1 : 7\nend\n";
+pub(crate) const TWO_LEVEL: &[u8] = b"mixedcells 1\ndim 1\nsupport 2\n0 : 7\n1 : 7\nend\n";
 
 const TWO_PERTURBED: &[u8] = b"mixedcells 2\ndim 1\nsupport 2\n0 : 7\n1 : 7\nend\n";
 

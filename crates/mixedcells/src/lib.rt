@@ -3,6 +3,7 @@
 
 mod along;
 mod lines;
+mod logs;
 mod many;
 mod moves;
 mod outcome;
@@ -22,6 +23,8 @@ pub use words::{Command, Family};
 mod along_tests;
 #[cfg(test)]
 mod ends_tests;
+#[cfg(test)]
+mod log_tests;
 #[cfg(test)]
 mod many_tests;
 #[cfg(test)]

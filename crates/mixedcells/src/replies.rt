@@ -3,6 +3,7 @@ ghost use Rattle.std.specs.Prelude.{◌≡◌, IfOk, false};
 ghost use Rattle.cell_certificate.specs.Answers.{IsRight};
 ghost use Rattle.cell_certificate.specs.Written.{AreListed};
 ghost use Rattle.mixedcells.specs.Answers.{IsReply, IsFileReply, IsPlainReply, IsGenericReply, IsListReply, IsCheckReply, IsPowersReply, IsRowsReply, IsMadeReply, IsVerdictReply, TellsFault};
+ghost use Rattle.mixedcells.specs.Judging.{TellsAnswer};
 ghost use Rattle.mixedcells.specs.Walks.{IsReachedListing, IsReachedSum, IsWalkReply};
 ghost use Rattle.mixedcells.specs.Words.{needs_team};
 ghost use Rattle.mixedcells.specs.Families as families;
@@ -11,7 +12,7 @@ ghost use Rattle.mixedcells.specs.Families.{IsFit, IsInLimits};
 use crate::lines::{format_line, no_line, overflow_cell, overflow_line, too_many_line, yes_line};
 use crate::outcome::Outcome;
 use crate::words::{Command, Family};
-use crate::{along, moves, systems};
+use crate::{along, logs, moves, systems};
 use cayley::{LiftFile, Problem};
 use cell_certificate::{CheckFault, Verdict};
 use family_gen::{cyclic, scatter};
@@ -45,6 +46,8 @@ pub fn answer(alloc: Global, command: Command, bytes: &[u8]) -> Result<Reply, Ou
         Command::Check => check(alloc, bytes),
         Command::Generic => generic(alloc, bytes),
         Command::Move => moves::moved(alloc, bytes),
+        Command::Trace => logs::trace(alloc, bytes),
+        Command::Verify => logs::verify(alloc, bytes),
         Command::Powers => powers(alloc, bytes),
         Command::Poly(seed) => systems::poly(alloc, seed, bytes),
         Command::Make(family, seed) => made(alloc, family, seed),
@@ -156,7 +159,14 @@ pub fn verdict(alloc: Global, listing: &Listing) -> Result<Reply, OutOfMemory>
     requires { AreListed listing.now }
     ensures { IfOk result (λ r. IsVerdictReply listing.now r.outcome r.text.items) }
 {
-    match cell_certificate::check(alloc, listing) {
+    answered(alloc, cell_certificate::check(alloc, listing))
+}
+
+/// The reply to the answer of a checker.
+pub fn answered(alloc: Global, answer: Result<Verdict, CheckFault>) -> Result<Reply, OutOfMemory>
+    ensures { IfOk result (λ r. TellsAnswer answer r.outcome r.text.items) }
+{
+    match answer {
         Ok(Verdict::Yes) => {
             let text = yes_line(alloc)?;
             Ok(Reply {
@@ -200,21 +210,7 @@ fn judged_rows(alloc: Global, listing: &Listing) -> Result<Reply, OutOfMemory>
 {
     match cell_certificate::check(alloc, listing) {
         Ok(Verdict::Yes) => rows(alloc, listing),
-        Ok(Verdict::No { line, reason }) => {
-            let text = no_line(alloc, line, reason)?;
-            Ok(Reply {
-                outcome: Outcome::No { line, reason },
-                text,
-            })
-        }
-        Err(CheckFault::Overflow { line }) => {
-            let text = overflow_line(alloc, line)?;
-            Ok(Reply {
-                outcome: Outcome::OverflowLine { line },
-                text,
-            })
-        }
-        Err(CheckFault::OutOfMemory) => Err(OutOfMemory),
+        refused => answered(alloc, refused),
     }
 }
 

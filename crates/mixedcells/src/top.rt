@@ -14,6 +14,8 @@ ghost use Rattle.listing_text.specs.Listings.{IsListingOf};
 ghost use Rattle.cell_certificate.specs.Answers.{IsRight, IsTooLarge};
 ghost use Rattle.cell_certificate.specs.Written.{AreMixed};
 ghost use Rattle.homotopy_rows.specs.Answers.{IsPowersText};
+ghost use Rattle.path_log.specs.declared.log.PathLog.{PathLog};
+ghost use Rattle.log_check.specs.Verdicts.{HasPathTree, ListsMixedCells};
 ghost use Rattle.cell_bound.specs.Quiet.{IsQuiet};
 ghost use Rattle.poly_text.specs.SystemText.{system_of};
 ghost use Rattle.plain_lister.specs.Choices.{HasTooMany};
@@ -24,7 +26,8 @@ ghost use Rattle.mixedcells.specs.Families.{IsFit, family_file, lifted_text};
 ghost use Rattle.mixedcells.specs.Answers.{IsListingText, IsMoveText};
 ghost use Rattle.mixedcells.specs.Walks.{IsReachedListing, IsReachedSum, IsSumOf, IsSafe, TreeFits, IsTreeTie, IsTreeUnfit};
 ghost use Rattle.mixedcells.specs.Moving.{target_of, IsMovedListing, IsMoveTie, IsMoveUnfit, IsFull, IsGenericMove, MoveFits};
-ghost use Rattle.mixedcells.specs.Runs.{AreLoose, IsInput, IsAnswer, IsCalledFor, IsCutOff, IsFree, IsVerdict, IsWrittenListing, IsSpared, Passes, Finishes, TakesNoMore};
+ghost use Rattle.mixedcells.specs.Logs.{IsTracedText, IsWrittenLog, IsLogText, TellsLog};
+ghost use Rattle.mixedcells.specs.Runs.{AreLoose, IsInput, IsAnswer, IsCalledFor, IsCutOff, IsFree, IsVerdict, IsWrittenListing, IsSpared, IsSparedLog, Passes, Finishes, TakesNoMore};
 
 use crate::outcome::Outcome;
 use crate::replies::{Reply, answer};
@@ -135,6 +138,19 @@ pub fn run_alone<S: Source, K: Sink>(
     // A listing whose lines all pass is moved along a generic segment where all workings fit.
     ensures moves { (bytes : List ℕ) (listing : Listing) (second : List (List ℤ)) → S.left source.old ≡ Some bytes → length bytes ≤ 16777216 → Means (map string_bytes words.now) Command.Move
         → IsMoveText bytes listing second → IsRight listing → IsGenericMove listing second → MoveFits listing second → (result ≡ Outcome.Ok) ⊎ IsFree result }
+    // `trace` that ends Ok has written the log of the file: its path tree in preorder, each cell with its inverse, and the mixed cells to which the path leads.
+    ensures traced { (bytes : List ℕ) → S.left source.old ≡ Some bytes → Means (map string_bytes words.now) Command.Trace → result ≡ Outcome.Ok
+        → (file : File) × (problem_of bytes ≡ Ok file) × ((text : List ℕ) × IsTracedText file text × Appends (K.held sink.old) (K.held sink.new) text) }
+    // `verify` that ends Ok: the nodes of the log are the path tree in preorder, and its listed cells those to which the path leads; where heights are
+    // perturbed or the path has no tie these are exactly the mixed cells of the file, each with its normal.
+    ensures verified { (bytes : List ℕ) → S.left source.old ≡ Some bytes → Means (map string_bytes words.now) Command.Verify → result ≡ Outcome.Ok
+        → (log : PathLog) × IsLogText bytes log × HasPathTree log × ListsMixedCells log }
+    // Each answer on a log comes exactly where the log asks for it.
+    ensures told_log { (bytes : List ℕ) (log : PathLog) → S.left source.old ≡ Some bytes → length bytes ≤ 16777216
+        → Means (map string_bytes words.now) Command.Verify → IsLogText bytes log → TellsLog log result ⊎ IsFree result }
+    // `verify` never refuses for a reason what `trace` has written.
+    ensures spares_log { (bytes : List ℕ) (file : File) → S.left source.old ≡ Some bytes → Means (map string_bytes words.now) Command.Verify → IsWrittenLog file bytes
+        → IsSparedLog bytes result ⊎ IsFree result }
     // `poly` writes exactly the canonical text of the file that lifts the system which the bytes mean, or tells their first fault.
     ensures systems { (bytes : List ℕ) (seed : ℕ) → S.left source.old ≡ Some bytes → length bytes ≤ 16777216 → Means (map string_bytes words.now) (Command.Poly seed)
         → MatchResult (system_of bytes) (λ system. (result ≡ Outcome.Ok) × Appends (K.held sink.old) (K.held sink.new) (lifted_text seed system)) (λ fault. result ≡ Outcome.Format fault.line fault.kind) ⊎ IsFree result }

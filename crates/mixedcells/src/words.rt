@@ -34,6 +34,10 @@ pub enum Command {
     Generic,
     /// `move`: carry a listing to a second lift of the same points, along the straight path between the two.
     Move,
+    /// `trace`: write the log of the path tree of a problem file.
+    Trace,
+    /// `verify`: judge a log, without trust in whoever wrote it and without an elimination.
+    Verify,
     /// `powers`: write the powers of each cell of a listing that is judged right.
     Powers,
     /// `poly`: write the problem file of a system of polynomials with the heights behind this seed.
@@ -54,6 +58,8 @@ impl Command {
             Command::Check => true,
             Command::Generic => true,
             Command::Move => true,
+            Command::Trace => true,
+            Command::Verify => true,
             Command::Powers => true,
             Command::Poly(_) => true,
             Command::Make(_, _) => false,
@@ -93,6 +99,8 @@ fn built(meaning: Meaning) -> Option<Command>
         Meaning::Check => Some(Command::Check),
         Meaning::Generic => Some(Command::Generic),
         Meaning::Move => Some(Command::Move),
+        Meaning::Trace => Some(Command::Trace),
+        Meaning::Verify => Some(Command::Verify),
         Meaning::Powers => Some(Command::Powers),
         Meaning::Poly(seed) => Some(Command::Poly(seed)),
         Meaning::Make(family, seed) => Some(Command::Make(family, seed)),

@@ -18,7 +18,7 @@ use Rattle.mixedcells.specs.Outcomes.{status_of}
 use Rattle.mixedcells.specs.Families.{lifted_text}
 use Rattle.mixedcells.specs.Answers.{limit, IsListingText}
 use Rattle.mixedcells.specs.Walks.{IsTreeTie, IsTreeUnfit}
-use Rattle.mixedcells.specs.Runs.{AreLoose, IsCalledFor, IsFree, IsSpared, Passes}
+use Rattle.mixedcells.specs.Runs.{AreLoose, IsCalledFor, IsFree, Passes}
 use Rattle.mixedcells_c.specs.Buffers.{Grown, IsWithheld, Stands, Holds, IsGiven, HasNoRoom, HasNoMemory}
 use Rattle.mixedcells_c.specs.Runs.{IsRun, IsEnd}
 use Rattle.mixedcells_c.proofs.Statuses.{ok_alone, tie_alone, read_fault_alone, write_fault_alone, no_memory_alone, team_alone, overflow_alone, room_is_none}
@@ -108,9 +108,10 @@ module _ {words : List (List ℕ)} {input old new : List ℕ} {needed status : �
       (λ o t run at. ⊎_elim (λ e. inl (at.0 ∙ ap status_of e)) (λ n. inr (inl (at.0 ∙ ap status_of n.1))) (f o t run))
       (λ o t run at. inr (inr (inr at.0))) (λ at. inr (inr (inl at.0)))
 
-  pub spared : ((outcome : Outcome) (text : List ℕ) → IsRun words input outcome text → IsSpared input outcome)
-      → ((outcome : Outcome) × (status ≡ status_of outcome) × IsSpared input outcome) ⊎ IsWithheld status
-  spared f = by_way (λ o t run at. inl (o, at.0, f o t run)) (λ o t run at. inr (inr at.0)) (λ at. inr (inl at.0))
+  -- what holds of the outcome of every such run holds of one that the status tells, or none is given
+  pub spared : (Spares : Outcome → Type 0) → ((outcome : Outcome) (text : List ℕ) → IsRun words input outcome text → Spares outcome)
+      → ((outcome : Outcome) × (status ≡ status_of outcome) × Spares outcome) ⊎ IsWithheld status
+  spared Spares f = by_way (λ o t run at. inl (o, at.0, f o t run)) (λ o t run at. inr (inr at.0)) (λ at. inr (inl at.0))
 
   -- where no cell is said not to fit, a line is
   pub line_alone : status ≡ 5 → ((outcome : Outcome) (text : List ℕ) → IsRun words input outcome text → (cell : Cell) → outcome ≢ variant.OverflowCell cell)

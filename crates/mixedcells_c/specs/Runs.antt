@@ -11,6 +11,8 @@ use Rattle.listing_text.specs.Listings.{IsListingOf}
 use Rattle.cell_certificate.specs.Answers.{IsRight, IsTooLarge}
 use Rattle.cell_certificate.specs.Written.{AreMixed}
 use Rattle.homotopy_rows.specs.Answers.{IsPowersText}
+use Rattle.path_log.specs.declared.log.PathLog.{PathLog}
+use Rattle.log_check.specs.Verdicts.{HasPathTree, ListsMixedCells}
 use Rattle.cell_bound.specs.Quiet.{IsQuiet}
 use Rattle.poly_text.specs.SystemText.{system_of}
 use Rattle.plain_lister.specs.Choices.{HasTooMany}
@@ -23,7 +25,8 @@ use Rattle.mixedcells.specs.Words.{Means, HasMeaning, IsForTeam, IsWalking}
 use Rattle.mixedcells.specs.Families.{family_file, lifted_text}
 use Rattle.mixedcells.specs.Answers.{limit, IsListingText}
 use Rattle.mixedcells.specs.Walks.{IsReachedListing, IsReachedSum, IsSumOf, IsSafe, TreeFits, IsTreeTie, IsTreeUnfit}
-use Rattle.mixedcells.specs.Runs.{AreLoose, IsCalledFor, IsFree, IsVerdict, IsWrittenListing, IsSpared, Passes}
+use Rattle.mixedcells.specs.Logs.{IsTracedText, IsWrittenLog, IsLogText}
+use Rattle.mixedcells.specs.Runs.{AreLoose, IsCalledFor, IsFree, IsVerdict, IsWrittenListing, IsSpared, IsSparedLog, Passes}
 use Rattle.mixedcells_c.specs.Buffers.{IsGiven, HasNoRoom, HasNoMemory}
 
 -- what `run_alone` says where the words and the input are these, neither end fails, and it ends so and writes this
@@ -57,6 +60,9 @@ pub record IsRun (words : List (List ℕ)) (input : List ℕ) (outcome : Outcome
   pub needs_team : (outcome ≡ variant.NeedsTeam) ↔ IsForTeam words
   pub silent : outcome ≡ variant.NeedsTeam → text ≡ []
   pub powers : Means words verb.Powers → outcome ≡ variant.Ok → (listing : Listing) × IsListingText input listing × IsRight listing × IsPowersText listing text
+  pub traced : Means words verb.Trace → outcome ≡ variant.Ok → (file : File) × (problem_of input ≡ Ok file) × IsTracedText file text
+  pub verified : Means words verb.Verify → outcome ≡ variant.Ok → (log : PathLog) × IsLogText input log × HasPathTree log × ListsMixedCells log
+  pub spares_log : (file : File) → Means words verb.Verify → IsWrittenLog file input → IsSparedLog input outcome
   pub systems : (seed : ℕ) → length input ≤ limit → Means words (verb.Poly seed) → MatchResult (system_of input)
       (λ system. (outcome ≡ variant.Ok) × (text ≡ lifted_text seed system)) (λ fault. outcome ≡ variant.Format fault.line fault.kind)
   pub made : (family : Family) (seed : ℕ) → Means words (verb.Make family seed) → outcome ≡ variant.Ok

@@ -11,6 +11,8 @@ ghost use Rattle.listing_text.specs.Listings.{IsListingOf};
 ghost use Rattle.cell_certificate.specs.Answers.{IsRight, IsTooLarge};
 ghost use Rattle.cell_certificate.specs.Written.{AreMixed};
 ghost use Rattle.homotopy_rows.specs.Answers.{IsPowersText};
+ghost use Rattle.path_log.specs.declared.log.PathLog.{PathLog};
+ghost use Rattle.log_check.specs.Verdicts.{HasPathTree, ListsMixedCells};
 ghost use Rattle.cell_bound.specs.Quiet.{IsQuiet};
 ghost use Rattle.poly_text.specs.SystemText.{system_of};
 ghost use Rattle.plain_lister.specs.Choices.{HasTooMany};
@@ -24,7 +26,8 @@ ghost use Rattle.mixedcells.specs.Families.{family_file, lifted_text};
 ghost use Rattle.mixedcells.specs.Outcomes.{status_of};
 ghost use Rattle.mixedcells.specs.Answers.{limit, IsListingText};
 ghost use Rattle.mixedcells.specs.Walks.{IsReachedListing, IsReachedSum, IsSumOf, IsSafe, TreeFits, IsTreeTie, IsTreeUnfit};
-ghost use Rattle.mixedcells.specs.Runs.{AreLoose, IsCalledFor, IsWrittenListing, IsSpared};
+ghost use Rattle.mixedcells.specs.Logs.{IsTracedText, IsWrittenLog, IsLogText};
+ghost use Rattle.mixedcells.specs.Runs.{AreLoose, IsCalledFor, IsWrittenListing, IsSpared, IsSparedLog};
 ghost use Rattle.mixedcells_c.specs.Commands.{words_in};
 ghost use Rattle.mixedcells_c.specs.Buffers.{IsWithheld, IsGiven, HasNoRoom, Holds};
 
@@ -114,6 +117,15 @@ pub extern "C" fn mixedcells_run(
     // `powers` that answers 0: the powers of each cell of the listing, whose lines all pass.
     ensures powers { Means (words_in command.now) verb.Powers → result ≡ 0 → (listing : Listing) × IsListingText input.now listing × IsRight listing
         × Holds (IsPowersText listing) room.old room.new needed.new }
+    // `trace` that answers 0: the answer is the log of the file.
+    ensures traced { Means (words_in command.now) verb.Trace → result ≡ 0
+        → (file : File) × (problem_of input.now ≡ Ok file) × Holds (IsTracedText file) room.old room.new needed.new }
+    // `verify` that answers 0: the nodes of the log are the path tree in preorder, and its cells those to which the path leads.
+    ensures verified { Means (words_in command.now) verb.Verify → result ≡ 0
+        → (log : PathLog) × IsLogText input.now log × HasPathTree log × ListsMixedCells log }
+    // `verify` never refuses for a reason what `trace` has written.
+    ensures spares_log { (file : File) → Means (words_in command.now) verb.Verify → IsWrittenLog file input.now
+        → ((outcome : Outcome) × (result ≡ status_of outcome) × IsSparedLog input.now outcome) ⊎ IsWithheld result }
     // `poly` gives exactly the canonical text of the file that lifts the system which the input means, or tells its first fault.
     ensures systems { (seed : ℕ) → length input.now ≤ limit → Means (words_in command.now) (verb.Poly seed)
         → MatchResult (system_of input.now) (λ system. (result ≡ 0) × Holds (λ text. text ≡ lifted_text seed system) room.old room.new needed.new)

@@ -1,4 +1,4 @@
 mod Spans
 mod Written
-mod LogBack
-mod LogForms
+pub mod LogBack
+pub mod LogForms

@@ -21,6 +21,7 @@ use Rattle.searcher.specs.declared.branches.Branch.{Branch}
 use Rattle.searcher.specs.declared.expansions.HaltCause.{HaltCause}
 use Rattle.searcher.specs.declared.expansions.HaltCause.TheVariants.{Tie, Overflow, OutOfMemory}
 use Rattle.searcher.specs.declared.searching.Found.{Found}
+use Rattle.searcher.specs.Ends.{IsTiedAtEnd}
 use Rattle.searcher.specs.Expansions.{IsCause, HasLowestNormal, ShowsTieAtEnd, HasNoTie}
 use Rattle.searcher.specs.Searches.{CostOf, IsFound, IsLeft, NeverFalls, top}
 use Rattle.searcher.specs.Workings.{FitsWorking}
@@ -33,7 +34,7 @@ use Rattle.path_trace.specs.declared.trace.Trace.{Trace}
 use Rattle.path_trace.specs.Preorders.{IsPreorder, cells_in}
 use Rattle.path_trace.specs.Preorders.ArePreorders.{none}
 use Rattle.search_team.proofs.Starts.{first_in}
-use Rattle.path_tracer.specs.Nodes.{HasInverse}
+use Rattle.path_tracer.specs.Nodes.{HasInverse, FitsNumbers}
 use Rattle.path_tracer.specs.Traced.{IsTraced}
 use Rattle.path_tracer.proofs.Walks.{start_of, IsOnWay}
 
@@ -74,13 +75,15 @@ module _ (p : Problem) (valid : IsValidProblem p) (started : IsStarted p) where
       finds_share p valid.shape.problem (start_of p ∷ []) whole is (start_of p) refl
 
   pub traced : (found : List FoundCell) (left : List Branch) (trace : Trace) → left ≡ [] → IsPermutation found trace.found.items → NeverFalls (cells_of trace.found.items) → Each found (HasLowestNormal p)
-      → IsBalance p (start_of p ∷ []) left found (length trace.nodes.items) → IsOnWay p left trace.nodes.items → Each trace.nodes.items (HasInverse p) → Each trace.nodes.items (λ node. FitsWorking p node.cell)
-      → IsTraced p trace
-  traced found left trace empty moved order normals balance way inverses workings = record {
+      → IsBalance p (start_of p ∷ []) left found (length trace.nodes.items) → IsOnWay p left trace.nodes.items → Each trace.nodes.items (HasInverse p) → Each trace.nodes.items FitsNumbers
+      → Each trace.nodes.items (λ node. FitsWorking p node.cell) → Each trace.nodes.items (λ node. ¬ (IsTiedAtEnd p node.cell)) → IsTraced p trace
+  traced found left trace empty moved order normals balance way inverses fits workings untied = record {
     preorder = subst (IsPreorder p (start_cell p)) (append-nil (cells_in trace.nodes.items)) (subst (λ l. IsOnWay p l trace.nodes.items) empty way [] none);
     size = tree_size (length trace.nodes.items) found left empty balance;
     inverses = inverses;
+    fits = fits;
     workings = workings;
+    untied = untied;
     found = share (length trace.nodes.items) found trace.found left empty moved order normals balance;
     normals = each_sorted (HasLowestNormal p) found trace.found.items moved normals;
   }

@@ -17,6 +17,7 @@ use Rattle.searcher.specs.declared.branches.Branch.{Branch}
 use Rattle.searcher.specs.declared.expansions.Expansion.{Expansion}
 use Rattle.searcher.specs.declared.expansions.Expansion.TheVariants.{Inner, Target, Endless, Stranger}
 use Rattle.searcher.specs.Branches.{branch_of}
+use Rattle.searcher.specs.Ends.{IsTiedAtEnd}
 use Rattle.searcher.specs.Expansions.{IsExpansion}
 use Rattle.searcher.specs.Workings.{FitsWorking}
 use Rattle.path_tracer.specs.Nodes.{HasFurther}
@@ -62,6 +63,13 @@ branch_fits p b (Target found) h t = h.0.0.1
 branch_fits p b Endless h t = h.0.1
 branch_fits p b (Stranger branch) (inl n, e) t = absurd (n (true_of p (branch_of b) t))
 branch_fits p b (Stranger branch) (inr n, e) t = absurd (n.1 t)
+
+pub branch_untied : (p : Problem) (b : Branch) (e : Expansion) → IsExpansion p b e → IsTrueBranch p (branch_of b) → ¬ (IsTiedAtEnd p b.cell)
+branch_untied p b (Inner children) h t = λ tied. h.0.1 (inr tied)
+branch_untied p b (Target found) h t = λ tied. h.0.1 (inr tied)
+branch_untied p b Endless h t = λ tied. h.1 (inr tied)
+branch_untied p b (Stranger branch) (inl n, e) t = absurd (n (true_of p (branch_of b) t))
+branch_untied p b (Stranger branch) (inr n, e) t = absurd (n.1 t)
 
 pub inverse_fits : (p : Problem) (cell : Cell) → FitsWorking p cell → HasFurther p cell → FitsBeyond p.dimension (edge_rows p cell) FitsInverse
 inverse_fits p cell w f = (w.0, λ made e. ((w.1 made e).1 f.0 f.1 f.2).0)

@@ -1,5 +1,7 @@
 -- The nodes of a path tree.
 use Rattle.std.specs.Prelude.{ℕ}
+use Rattle.wide_int.specs.Whole.{FitsWhole}
+use Rattle.int_vectors.specs.Fits.{AllFit}
 use Rattle.cayley.specs.Problems.{Problem}
 use Rattle.cayley.specs.Cells.{Cell}
 use Rattle.cayley.specs.Dependencies.{IsFurtherAt}
@@ -16,6 +18,10 @@ inverse_in n node = record { den = node.scale; columns = columns n node.inverse 
 pub record HasInverse (p : Problem) (node : TraceNode) : Type 0 where
   pub inverse : IsInverseOver p node.cell node.scale node.inverse
   pub eliminated : IsInverseOf p node.cell (inverse_in p.dimension node)
+
+-- the number and each entry of the matrix fit
+abbrev pub FitsNumbers : TraceNode → Type 0
+FitsNumbers node = FitsWhole node.scale × AllFit node.inverse
 
 -- some point is neither of the cell's pair
 abbrev pub HasFurther : Problem → Cell → Type 0

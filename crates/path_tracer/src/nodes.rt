@@ -3,7 +3,7 @@ ghost use Rattle.cayley.specs.Cells.{IsOf, IsIndependent};
 ghost use Rattle.cayley.specs.Rows.{edge_rows};
 ghost use Rattle.reduced_rows.specs.CellRefusals.{FitsBeyond};
 ghost use Rattle.inner_normal.specs.Inverses.{FitsInverse};
-ghost use Rattle.path_tracer.specs.Nodes.{HasInverse};
+ghost use Rattle.path_tracer.specs.Nodes.{HasInverse, FitsNumbers};
 
 use crate::columns::columns_of;
 use crate::rows::by_rows;
@@ -25,6 +25,7 @@ pub(crate) fn node_of(
     requires fits { FitsBeyond problem.now.dimension (edge_rows problem.now cell) FitsInverse }
     ensures cell { IfOk result (λ node. node.cell ≡ cell) }
     ensures inverse { IfOk result (HasInverse problem.now) }
+    ensures fits { IfOk result FitsNumbers }
 {
     let eliminated = match Eliminated::of(alloc, problem, &cell) {
         Ok(eliminated) => eliminated,

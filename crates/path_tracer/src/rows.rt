@@ -24,7 +24,8 @@ fn push_row(columns: &[IntVec], place: usize, entries: &mut Vec<i128>) -> Result
 // The numbers of a square matrix row after row.
 pub(crate) fn by_rows(alloc: Global, columns: &[IntVec]) -> Result<IntVec, OutOfMemory>
     requires square { Each columns.now (λ column. length column ≡ length columns.now) }
-    ensures { IfOk result (λ v. v ≡ rows_of (length columns.now) 0 columns.now) }
+    ensures rows { IfOk result (λ v. v ≡ rows_of (length columns.now) 0 columns.now) }
+    ensures fits { IfOk result (λ v. AllFit v) }
 {
     let mut entries = Vec::new(alloc);
     for place in 0..columns.len() {

@@ -9,7 +9,7 @@ ghost use Rattle.searcher.specs.Branches.{branch_of, children_of};
 ghost use Rattle.searcher.specs.Expansions.{IsExpansion, IsCause, ShowsTieAtEnd, HasNoTie};
 ghost use Rattle.searcher.specs.Searches.{NeverFalls, opened, found_in};
 ghost use Rattle.search_team.specs.PathSearches.{IsHalted};
-ghost use Rattle.path_tracer.specs.Nodes.{HasInverse, HasFurther};
+ghost use Rattle.path_tracer.specs.Nodes.{HasInverse, FitsNumbers, HasFurther};
 ghost use Rattle.path_tracer.specs.Traced.{IsTraced};
 
 use crate::nodes::node_of;
@@ -97,6 +97,7 @@ fn visited<L: Ledger>(
     ensures answer { MatchResult result
         (λ made. (made.0.cell ≡ branch.cell) × HasInverse problem.now made.0 × IsExpansion problem.now branch made.1)
         (IsCause problem.now branch) }
+    ensures fits { IfOk result (λ made. FitsNumbers made.0) }
     ensures step { steps.new ≡ steps.old + 1 }
     ensures tie { IfErr result (ShowsTieAtEnd problem.now) }
     ensures untied { IsTieFree problem.now → IfErr result HasNoTie }

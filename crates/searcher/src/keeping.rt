@@ -25,7 +25,7 @@ fn put_child(child: Cell, time: &Lex, left: &mut Vec<Branch>)
     ensures put { left.new.items ≡ left.old.items ++ (record { cell = child; begin = At time.now }) ∷ [] }
     ensures room { (vec_len left.new ≡ vec_len left.old + 1) × (vec_capacity left.new ≡ vec_capacity left.old) }
 {
-    left.push_reserved(Branch::new(child, Begin::At(time.copy())));
+    left.push_reserved(Branch::new(child, Begin::At(*time)));
 }
 
 // Puts the children at the wall, which are the cells that the cell precedes where it ends, or none.

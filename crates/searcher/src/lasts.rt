@@ -1,9 +1,8 @@
-ghost use Rattle.std.specs.Prelude.{◌≡◌, ◌↔◌, ◌<◌, ◌≤◌, ◌-◌, IfSome, IsTrue, length};
+ghost use Rattle.std.specs.Prelude.{◌≡◌, IfSome, IsTrue};
 ghost use Rattle.cayley.specs.Cells.{IsOf};
-ghost use Rattle.cayley.specs.Dependencies.{nth_support};
 ghost use Rattle.searcher.specs.Walks.{IsLast};
 
-use carried_inverse::{Carried, Exchange};
+use carried_inverse::Carried;
 use cayley::{Cell, Problem};
 use inner_normal::Eliminated;
 use std::alloc::Global;
@@ -17,51 +16,26 @@ pub(crate) struct Last {
     pub(crate) row: Vec<i64>,
 }
 
-// The inverse of the cell with another pair in a support, unless the flip isn't made.
-fn flipped(problem: &Problem, last: Last, support: u32, pair: (u32, u32)) -> Last
-    requires last { IsLast problem.now last }
-    requires support { (1 ≤ support) × (support ≤ problem.now.dimension) }
-    requires pair { (1 ≤ pair.0) × (pair.0 < pair.1) × (pair.1 ≤ length (nth_support problem.now.supports (support - 1))) }
-    ensures { IsLast problem.now result }
-{
-    // A problem is valid by its type, as its readers tell.
-    let _dim = problem.dim();
-    let Last {
-        cell,
-        mut carried,
-        mut row,
-    } = last;
-    match carried.flip(problem, support, pair, &mut row) {
-        Exchange::Made => Last {
-            cell: cell.with_pair(support as usize - 1, pair),
-            carried,
-            row,
-        },
-        _ => Last { cell, carried, row },
-    }
-}
-
-// Flips the pairs in which the cells differ, as far as each flip can be made.
-fn toward(problem: &Problem, last: Last, cell: &Cell) -> Last
-    requires last { IsLast problem.now last }
+// One round of flips toward a cell, as far as each can be made; gives whether it is there.
+fn is_nearer(problem: &Problem, last: &mut Last, cell: &Cell) -> bool
+    requires last { IsLast problem.now last.old }
     requires cell { IsOf problem.now cell.now }
-    ensures { IsLast problem.now result }
+    ensures last { IsLast problem.now last.new }
+    ensures same { IsTrue result → last.new.cell ≡ cell.now }
 {
-    // A problem is valid by its type, as its readers tell.
-    let _dim = problem.dim();
-    let mut last = last;
-    for (i, pair) in cell.pairs().iter().enumerate() {
-        if last.cell.pairs()[i] != *pair {
-            last = flipped(problem, last, i as u32 + 1, *pair);
-        }
-    }
-    last
+    last.carried
+        .toward(problem, &mut last.cell, cell, &mut last.row)
 }
 
-fn is_at(last: &Last, cell: &Cell) -> bool
-    ensures { IsTrue result ↔ (last.now.cell ≡ cell.now) }
+// Leads the last cell to another by flips, whose inverse is then kept; gives whether it is there. A flip
+// that can't be made before another may be made behind it.
+fn is_led(problem: &Problem, last: &mut Last, cell: &Cell) -> bool
+    requires last { IsLast problem.now last.old }
+    requires cell { IsOf problem.now cell.now }
+    ensures last { IsLast problem.now last.new }
+    ensures same { IsTrue result → last.new.cell ≡ cell.now }
 {
-    last.cell.cmp(cell).is_eq()
+    is_nearer(problem, last, cell) || is_nearer(problem, last, cell)
 }
 
 // The inverse of the cell by an elimination, unless it might not fit.
@@ -98,13 +72,8 @@ pub(crate) fn reach(
     requires last { IfSome last (IsLast problem.now) }
     ensures { IfSome result (λ last. IsLast problem.now last × (last.cell ≡ cell.now)) }
 {
-    if let Some(last) = last {
-        let last = toward(problem, last, cell);
-        if is_at(&last, cell) {
-            return Some(last);
-        }
-        let last = toward(problem, last, cell);
-        if is_at(&last, cell) {
+    if let Some(mut last) = last {
+        if is_led(problem, &mut last, cell) {
             return Some(last);
         }
     }

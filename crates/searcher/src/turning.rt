@@ -11,7 +11,7 @@ ghost use Rattle.searcher.specs.Ends.{IsTiedAtBegin};
 ghost use Rattle.searcher.specs.Expansions.{IsCause, IsSettled, ShowsTieAtEnd, HasNoTie};
 ghost use Rattle.searcher.specs.Searches.{opened, found_in};
 ghost use Rattle.searcher.specs.Walks.{IsCarried, IsLast, IsMade, IsWalk};
-ghost use Rattle.searcher.specs.Turns.{IsTurned, list_of};
+ghost use Rattle.searcher.specs.Turns.{IsTurned, IsHalting, list_of};
 
 use crate::branches::Branch;
 use crate::endings::{seek, signs_by, tie_between};
@@ -23,7 +23,7 @@ use crate::settling::expanded;
 use crate::targets::mixed;
 use crate::walks::{Walk, lesser};
 use cayley::{FoundCell, Problem};
-use cone_walls::{Front, Steps, time_of};
+use cone_walls::{Fall, Front, Steps, time_of};
 use inner_normal::MovingNormal;
 use std::alloc::Global;
 use std::mem;
@@ -69,6 +69,25 @@ fn plain_turn<L: Ledger>(
     }
 }
 
+// Why a turn halts where a cell ends: at two lines that are zero at once, or for want of memory. It is
+// small, unlike the cause that is told of it.
+#[derive(Clone, Copy)]
+enum Halting {
+    Tied(Fall, Fall),
+    OutOfMemory,
+}
+
+// The cause that is told.
+fn cause_of(problem: &Problem, branch: &Branch, halting: &Halting) -> HaltCause
+    requires { IsHalting problem.now branch.now halting.now }
+    ensures { IsCause problem.now branch.now result }
+{
+    match halting {
+        Halting::Tied(fall, other) => HaltCause::Tie(tie_between(branch.cell(), fall, other)),
+        Halting::OutOfMemory => HaltCause::OutOfMemory,
+    }
+}
+
 // Puts what a true branch opens, by the lines that end its cell.
 fn put_ended(
     alloc: Global,
@@ -78,7 +97,7 @@ fn put_ended(
     normal: MovingNormal,
     front: &Front,
     left: &mut Vec<Branch>,
-) -> Result<Option<FoundCell>, HaltCause>
+) -> Result<Option<FoundCell>, Halting>
     requires still { IsStill problem.now }
     requires settled { IsSettled problem.now branch.now }
     requires untied { ¬ (IsTiedAtBegin problem.now branch.now.cell) }
@@ -88,7 +107,7 @@ fn put_ended(
     requires falls { AreFalls front.now }
     requires end { IsFrontOf problem.now branch.now.cell normal front.now }
     requires room { vec_len left.old + 2 ≤ vec_capacity left.old }
-    ensures answer { MatchResult result (IsTurned problem.now branch.now left.old.items left.new.items) (IsCause problem.now branch.now) }
+    ensures answer { MatchResult result (IsTurned problem.now branch.now left.old.items left.new.items) (IsHalting problem.now branch.now) }
     ensures same { IfErr result (λ _. left.new ≡ left.old) }
 {
     // A problem is valid by its type, as its readers tell.
@@ -99,12 +118,12 @@ fn put_ended(
             let time = time_of(fall);
             let (support, position) = (fall.support, fall.position);
             let Ok(signs) = signs_by(alloc, problem, last, support, position) else {
-                return Err(HaltCause::OutOfMemory);
+                return Err(Halting::OutOfMemory);
             };
             put_children_by(problem, &last.cell, &signs, support, position, &time, left);
             Ok(None)
         }
-        Front::Two(fall, other) => Err(HaltCause::Tie(tie_between(branch.cell(), fall, other))),
+        Front::Two(fall, other) => Err(Halting::Tied(*fall, *other)),
     }
 }
 
@@ -144,7 +163,10 @@ fn carried_turn<L: Ledger>(
         left,
     );
     *last = Some(reached);
-    answer
+    match answer {
+        Ok(found) => Ok(found),
+        Err(halting) => Err(cause_of(problem, branch, &halting)),
+    }
 }
 
 // A turn of a branch that stood behind `count` others.

@@ -14,7 +14,7 @@ use Rattle.mixedcells.specs.declared.words.meaning.Meaning.TheVariants as meanin
 use Rattle.mixedcells.specs.CommandLine.{top}
 use Rattle.mixedcells.specs.Reading.{read}
 use Rattle.mixedcells.specs.Words.{after, alone, number, searchers_in, seed_in, searchers, system_seed, meaning_found, meaning_of, made}
-use Rattle.mixedcells.proofs.CommandLine.Shapes.{plain_taken, plain_read, check_taken, check_read, powers_taken, powers_read, generic_taken, generic_read, move_taken, move_read, poly_taken, poly_read, poly_joined_taken, poly_joined_read, poly_two_taken, poly_two_read, list_taken, list_read, list_joined_taken, list_joined_read, list_two_taken, list_two_read, sum_taken, sum_read, sum_joined_taken, sum_joined_read, sum_two_taken, sum_two_read}
+use Rattle.mixedcells.proofs.CommandLine.Shapes.{plain_taken, plain_read, check_taken, check_read, powers_taken, powers_read, generic_taken, generic_read, move_taken, move_read, trace_taken, trace_read, verify_taken, verify_read, poly_taken, poly_read, poly_joined_taken, poly_joined_read, poly_two_taken, poly_two_read, list_taken, list_read, list_joined_taken, list_joined_read, list_two_taken, list_two_read, sum_taken, sum_read, sum_joined_taken, sum_joined_read, sum_two_taken, sum_two_read}
 
 abbrev pub IsRead : List Text → Meaning → Type 0
 IsRead ws m = (takes top ws ≡ true) × (meaning_found (read (subcommand_of top ws)) ≡ Some m)
@@ -71,6 +71,14 @@ generic_law (w ∷ ws) m e = cc
 move_law : (ws : List Text) (m : Meaning) → alone meaning.Move ws ≡ Some m → IsRead (codes "move" ∷ ws) m
 move_law [] m e = (move_taken, ap meaning_found move_read ∙ e)
 move_law (w ∷ ws) m e = cc
+
+trace_law : (ws : List Text) (m : Meaning) → alone meaning.Trace ws ≡ Some m → IsRead (codes "trace" ∷ ws) m
+trace_law [] m e = (trace_taken, ap meaning_found trace_read ∙ e)
+trace_law (w ∷ ws) m e = cc
+
+verify_law : (ws : List Text) (m : Meaning) → alone meaning.Verify ws ≡ Some m → IsRead (codes "verify" ∷ ws) m
+verify_law [] m e = (verify_taken, ap meaning_found verify_read ∙ e)
+verify_law (w ∷ ws) m e = cc
 
 poly_joined_law : (w : Text) (o : Option Text) (m : Meaning) → after (codes "--seed=") w ≡ o → option_map meaning.Poly (option_and_then seed_in o) ≡ Some m → IsRead (codes "poly" ∷ w ∷ []) m
 poly_joined_law w None m s e = cc
@@ -147,7 +155,9 @@ law_above w ws m make e =
     chosen w (codes "powers") ws (bytes_eq w (codes "powers")) _ _ m refl e2 (powers_law ws m) (λ e3.
     chosen w (codes "generic") ws (bytes_eq w (codes "generic")) _ _ m refl e3 (generic_law ws m) (λ e4.
     chosen w (codes "move") ws (bytes_eq w (codes "move")) _ _ m refl e4 (move_law ws m) (λ e5.
-    chosen w (codes "poly") ws (bytes_eq w (codes "poly")) _ _ m refl e5 (poly_law ws m) (λ e6.
-    chosen w (codes "list") ws (bytes_eq w (codes "list")) _ _ m refl e6 (list_law ws m) (λ e7.
-    chosen w (codes "sum") ws (bytes_eq w (codes "sum")) _ _ m refl e7 (sum_law ws m) (λ e8.
-    chosen w (codes "make") ws (bytes_eq w (codes "make")) _ _ m refl e8 make (λ e9. let b : ⊥ = cc in absurd b)))))))))
+    chosen w (codes "trace") ws (bytes_eq w (codes "trace")) _ _ m refl e5 (trace_law ws m) (λ e6.
+    chosen w (codes "verify") ws (bytes_eq w (codes "verify")) _ _ m refl e6 (verify_law ws m) (λ e7.
+    chosen w (codes "poly") ws (bytes_eq w (codes "poly")) _ _ m refl e7 (poly_law ws m) (λ e8.
+    chosen w (codes "list") ws (bytes_eq w (codes "list")) _ _ m refl e8 (list_law ws m) (λ e9.
+    chosen w (codes "sum") ws (bytes_eq w (codes "sum")) _ _ m refl e9 (sum_law ws m) (λ e10.
+    chosen w (codes "make") ws (bytes_eq w (codes "make")) _ _ m refl e10 make (λ e11. let b : ⊥ = cc in absurd b)))))))))))

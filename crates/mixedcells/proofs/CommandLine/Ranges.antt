@@ -23,6 +23,8 @@ IsWithin meaning.Powers = Unit {0}
 IsWithin (meaning.Poly n) = Unit {0}
 IsWithin meaning.Generic = Unit {0}
 IsWithin meaning.Move = Unit {0}
+IsWithin meaning.Trace = Unit {0}
+IsWithin meaning.Verify = Unit {0}
 IsWithin (meaning.List n) = (1 ≤ n) × (n ≤ 64)
 IsWithin (meaning.Sum n) = (1 ≤ n) × (n ≤ 64)
 
@@ -126,10 +128,12 @@ within (w ∷ ws) =
     choice (bytes_eq w (codes "powers")) _ _ (alone_within meaning.Powers ws tt) (
     choice (bytes_eq w (codes "generic")) _ _ (alone_within meaning.Generic ws tt) (
     choice (bytes_eq w (codes "move")) _ _ (alone_within meaning.Move ws tt) (
+    choice (bytes_eq w (codes "trace")) _ _ (alone_within meaning.Trace ws tt) (
+    choice (bytes_eq w (codes "verify")) _ _ (alone_within meaning.Verify ws tt) (
     choice (bytes_eq w (codes "poly")) _ _ (poly_within (system_seed ws)) (
     choice (bytes_eq w (codes "list")) _ _ (list_within (searchers ws) (searchers_within ws)) (
     choice (bytes_eq w (codes "sum")) _ _ (sum_within (searchers ws) (searchers_within ws)) (
-    choice (bytes_eq w (codes "make")) _ _ (made_within (take (seed_place ws) ws) (drop (seed_place ws) ws)) tt))))))))
+    choice (bytes_eq w (codes "make")) _ _ (made_within (take (seed_place ws) ws) (drop (seed_place ws) ws)) tt))))))))))
 
 fit_by : (o : Option Meaning) (c : Command) → IfSome o IsWithin → option_and_then built o ≡ Some c → IsFit c
 fit_by None c h e = cc
@@ -139,6 +143,8 @@ fit_by (Some m) (verb.Sum n) h e = tt
 fit_by (Some m) verb.Check h e = tt
 fit_by (Some m) verb.Generic h e = tt
 fit_by (Some m) verb.Move h e = tt
+fit_by (Some m) verb.Trace h e = tt
+fit_by (Some m) verb.Verify h e = tt
 fit_by (Some m) verb.Powers h e = tt
 fit_by (Some m) (verb.Poly n) h e = tt
 fit_by (Some (meaning.Make g k)) (verb.Make f s) h e = let same : g ≡ f = cc in subst IsInLimits same h
@@ -147,6 +153,8 @@ fit_by (Some meaning.Check) (verb.Make f s) h e = cc
 fit_by (Some meaning.Powers) (verb.Make f s) h e = cc
 fit_by (Some meaning.Generic) (verb.Make f s) h e = cc
 fit_by (Some meaning.Move) (verb.Make f s) h e = cc
+fit_by (Some meaning.Trace) (verb.Make f s) h e = cc
+fit_by (Some meaning.Verify) (verb.Make f s) h e = cc
 fit_by (Some (meaning.Poly n)) (verb.Make f s) h e = cc
 fit_by (Some (meaning.List n)) (verb.Make f s) h e = cc
 fit_by (Some (meaning.Sum n)) (verb.Make f s) h e = cc
@@ -163,6 +171,8 @@ searchers_fit_by (Some meaning.Plain) c h e = let same : verb.Plain ≡ c = cc i
 searchers_fit_by (Some meaning.Check) c h e = let same : verb.Check ≡ c = cc in subst (λ d. (1 ≤ searchers_of d) × (searchers_of d ≤ 64)) same (omega arith, omega arith)
 searchers_fit_by (Some meaning.Generic) c h e = let same : verb.Generic ≡ c = cc in subst (λ d. (1 ≤ searchers_of d) × (searchers_of d ≤ 64)) same (omega arith, omega arith)
 searchers_fit_by (Some meaning.Move) c h e = let same : verb.Move ≡ c = cc in subst (λ d. (1 ≤ searchers_of d) × (searchers_of d ≤ 64)) same (omega arith, omega arith)
+searchers_fit_by (Some meaning.Trace) c h e = let same : verb.Trace ≡ c = cc in subst (λ d. (1 ≤ searchers_of d) × (searchers_of d ≤ 64)) same (omega arith, omega arith)
+searchers_fit_by (Some meaning.Verify) c h e = let same : verb.Verify ≡ c = cc in subst (λ d. (1 ≤ searchers_of d) × (searchers_of d ≤ 64)) same (omega arith, omega arith)
 searchers_fit_by (Some (meaning.Poly seed)) c h e = let same : verb.Poly seed ≡ c = cc in subst (λ d. (1 ≤ searchers_of d) × (searchers_of d ≤ 64)) same (omega arith, omega arith)
 searchers_fit_by (Some meaning.Powers) c h e = let same : verb.Powers ≡ c = cc in subst (λ d. (1 ≤ searchers_of d) × (searchers_of d ≤ 64)) same (omega arith, omega arith)
 searchers_fit_by (Some (meaning.Make f s)) c h e = let same : verb.Make f s ≡ c = cc in subst (λ d. (1 ≤ searchers_of d) × (searchers_of d ≤ 64)) same (omega arith, omega arith)

@@ -47,6 +47,22 @@ pub move_read : read (subcommand_of top (codes "move" ∷ [])) ≡ Some (read_se
 unfolding clap_on_literals
 move_read = refl
 
+pub trace_taken : takes top (codes "trace" ∷ []) ≡ true
+unfolding clap_on_literals
+trace_taken = refl
+
+pub trace_read : read (subcommand_of top (codes "trace" ∷ [])) ≡ Some (read_searchers (codes "trace") None)
+unfolding clap_on_literals
+trace_read = refl
+
+pub verify_taken : takes top (codes "verify" ∷ []) ≡ true
+unfolding clap_on_literals
+verify_taken = refl
+
+pub verify_read : read (subcommand_of top (codes "verify" ∷ [])) ≡ Some (read_searchers (codes "verify") None)
+unfolding clap_on_literals
+verify_read = refl
+
 pub poly_taken : takes top (codes "poly" ∷ []) ≡ true
 unfolding clap_on_literals
 poly_taken = refl

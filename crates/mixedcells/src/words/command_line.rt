@@ -88,6 +88,15 @@ fn moving_line<'a>(alloc: Global) -> Result<Command<'a>, AllocError>
     generic_line(alloc)?.subcommand(Command::new(alloc, "move"))
 }
 
+// The same, `trace` and `verify`.
+fn logging_line<'a>(alloc: Global) -> Result<Command<'a>, AllocError>
+    ensures app { IfOk result (λ c. app_of c ≡ spec.logging_line) }
+{
+    moving_line(alloc)?
+        .subcommand(Command::new(alloc, "trace"))?
+        .subcommand(Command::new(alloc, "verify"))
+}
+
 // `poly` with the seed as an option.
 fn system_command<'a>(alloc: Global) -> Result<Command<'a>, AllocError>
     ensures app { IfOk result (λ c. app_of c ≡ spec.system_app) }
@@ -101,7 +110,7 @@ fn system_line<'a>(alloc: Global) -> Result<Command<'a>, AllocError>
     ensures app { IfOk result (λ c. app_of c ≡ spec.system_line) }
 {
     let poly = system_command(alloc)?;
-    moving_line(alloc)?.subcommand(poly)
+    logging_line(alloc)?.subcommand(poly)
 }
 
 // The whole command line.

@@ -21,6 +21,8 @@ pub enum Meaning {
     Powers,
     Generic,
     Move,
+    Trace,
+    Verify,
     /// `poly`, behind this seed.
     Poly(u64),
     /// `make`, of this family and behind this seed.

@@ -21,6 +21,8 @@ pub fn meaning(words: &[String]) -> Option<Meaning>
         "powers" => alone(Meaning::Powers, rest),
         "generic" => alone(Meaning::Generic, rest),
         "move" => alone(Meaning::Move, rest),
+        "trace" => alone(Meaning::Trace, rest),
+        "verify" => alone(Meaning::Verify, rest),
         "poly" => Some(Meaning::Poly(system_seed(rest)?)),
         "list" => Some(Meaning::List(searchers(rest)?)),
         "sum" => Some(Meaning::Sum(searchers(rest)?)),

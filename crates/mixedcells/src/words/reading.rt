@@ -31,6 +31,8 @@ fn meaning_below(name: &str, matches: &ArgMatches) -> Option<Meaning>
         "powers" => Some(Meaning::Powers),
         "generic" => Some(Meaning::Generic),
         "move" => Some(Meaning::Move),
+        "trace" => Some(Meaning::Trace),
+        "verify" => Some(Meaning::Verify),
         "poly" => poly(seed_read(first_value(matches, "seed"))),
         "list" => list(searchers_read(first_value(matches, "searchers"))),
         "sum" => sum(searchers_read(first_value(matches, "searchers"))),

@@ -1,4 +1,4 @@
-use Rattle.std.proofs.Common.{rules, ◌≡◌, ℤ, ◌+◌, ◌*◌, ◌-◌, ◌<◌, ◌∙◌, sym, ap₂, length, arith, FitsSigned, to_z-of_z}
+use Rattle.std.proofs.Common.{rules, ℤ, ◌+◌, ◌*◌, ◌-◌, ◌<◌, ◌∙◌, sym, ap₂, length, arith, FitsSigned, to_z-of_z}
 use Rattle.std.specs.Int.{w128}
 use Rattle.inner_normal.proofs.PairNumbers.{pair_first, pair_second}
 use Rattle.cone_walls.proofs.fines.numbers_at.Goals as goal

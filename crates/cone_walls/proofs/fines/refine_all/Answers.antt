@@ -1,8 +1,7 @@
-use Rattle.std.proofs.Common.{rules, ◌≡◌, ◌++◌, ◌∷◌, [], ◌∙◌, List, length, refl, sym, ap, subst, arith}
+use Rattle.std.proofs.Common.{rules, ◌≡◌, ◌∷◌, [], ◌∙◌, length, sym, ap, subst, arith}
 use Rattle.std.specs.Vec.Iter.{into_iter_items}
 use Rattle.std.proofs.lemmas.List.{nil_from_length}
 use Rattle.std.proofs.lemmas.Result.{err_from_is_err_and}
-use Rattle.crossing.specs.declared.line.WallLine.{WallLine}
 use Rattle.cone_walls.specs.Parts.{AreRefined}
 use Rattle.cone_walls.proofs.Fining.{rest_further, rest_fit, more_refined, all_refined, unfit_line}
 use Rattle.cone_walls.proofs.fines.refine_all.Goals as goal

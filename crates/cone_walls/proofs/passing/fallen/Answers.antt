@@ -1,4 +1,4 @@
-use Rattle.std.proofs.Common.{rules, ◌≡◌, FitsSigned, to_z-of_z, ap₂, sym, subst, [], ◌∷◌, ◌++◌}
+use Rattle.std.proofs.Common.{rules, FitsSigned, to_z-of_z, ap₂, sym, subst, [], ◌∷◌, ◌++◌}
 use Rattle.std.specs.Int.{w64}
 use Rattle.int_vectors.specs.Bounds.{IsNarrow}
 use Rattle.cayley.specs.Stored.{point}

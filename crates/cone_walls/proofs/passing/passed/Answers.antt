@@ -1,16 +1,15 @@
-use Rattle.std.proofs.Common.{rules, ◌≡◌, ◌-ℤ◌, FitsSigned, to_z-of_z, ap₂, ◌∙◌, arith, sym, subst}
-use Rattle.std.specs.Int.{w64, w128}
+use Rattle.std.proofs.Common.{rules, ◌≡◌, ◌-ℤ◌, FitsSigned, to_z-of_z, ap₂, ◌∙◌, arith, sym}
+use Rattle.std.specs.Int.{w64}
 use Rattle.std.specs.Prelude.{IsTrue}
-use Rattle.std.proofs.lemmas.Int.{ints, fits_signed_from_abs}
-use Rattle.wide_int.specs.Whole.{FitsWhole}
+use Rattle.std.proofs.lemmas.Int.{ints}
 use Rattle.cayley.specs.Problems.{Point, point_at}
 use Rattle.cone_walls.specs.Listed.{line_of}
-use Rattle.cone_walls.specs.Numbers.{alpha, beta}
+use Rattle.cone_walls.specs.Numbers.{beta}
 use Rattle.cayley.specs.Stored.{point}
 use Rattle.cayley.specs.Valid.{support_at}
 use Rattle.cone_walls.proofs.Drifts.{growth_is, narrow_drift}
 use Rattle.cone_walls.proofs.NarrowPoints.{narrow_between}
-use Rattle.cone_walls.proofs.PassingLines.{made_of, own_front, idle_front, next_front}
+use Rattle.cone_walls.proofs.PassingLines.{own_front, idle_front, next_front}
 use Rattle.cone_walls.proofs.passing.passed.Goals as goal
 
 pub returns-then-is_own-clause-front : goal.returns-then-is_own-clause-front

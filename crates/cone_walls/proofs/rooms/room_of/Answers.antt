@@ -1,6 +1,5 @@
 use Rattle.std.proofs.Common.{rules}
 use Rattle.int_vectors.proofs.BoundRows.{within_weaker}
-use Rattle.int_vectors.specs.Bounds.{Within}
 use Rattle.cone_walls.specs.Rooms.{IsNarrowRoom, IsWideRoom}
 use Rattle.cone_walls.proofs.rooms.room_of.Goals as goal
 

@@ -1,8 +1,6 @@
-use Rattle.std.proofs.Common.{◌≡◌, ◌-ℤ◌, FitsSigned, to_z-of_z, ◌∙◌, ap₂}
+use Rattle.std.proofs.Common.{◌-ℤ◌, FitsSigned, to_z-of_z, ◌∙◌, ap₂}
 use Rattle.std.specs.Int.{w64}
-use Rattle.std.proofs.lemmas.Int.{fits_signed_from_abs}
 use Rattle.cayley.specs.Stored.{point}
-use Rattle.cone_walls.specs.Numbers as numbers
 use Rattle.cone_walls.proofs.Drifts.{growth_is, growth_fits}
 use Rattle.cone_walls.proofs.slopes.growth.Goals as goal
 

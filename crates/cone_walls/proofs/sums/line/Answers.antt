@@ -1,7 +1,6 @@
-use Rattle.std.proofs.Common.{◌≡◌, ◌^◌}
+use Rattle.std.proofs.Common.{◌≡◌}
 use Rattle.cayley.specs.Stored.{point}
 use Rattle.cone_walls.specs.Numbers.{alpha, beta}
-use Rattle.cone_walls.specs.Rooms.{HasRoom}
 use Rattle.cone_walls.proofs.RoomAround.{room_wider, line_value, line_fits}
 use Rattle.cone_walls.proofs.sums.line.Goals as goal
 

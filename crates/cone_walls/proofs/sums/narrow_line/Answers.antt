@@ -1,5 +1,5 @@
-use Rattle.std.proofs.Common.{rules, ◌≡◌, ◌-ℤ◌, ◌*ℤ◌, pos, FitsSigned, to_z-of_z, subst, sym}
-use Rattle.std.specs.Int.{w64, w128}
+use Rattle.std.proofs.Common.{rules, ◌≡◌, ◌-ℤ◌, ◌*ℤ◌, FitsSigned, to_z-of_z, subst, sym}
+use Rattle.std.specs.Int.{w64}
 use Rattle.int_vectors.specs.Vectors.{Each}
 use Rattle.int_vectors.specs.Bounds.{IsNarrow}
 use Rattle.cone_walls.proofs.sums.narrow_line.Goals as goal

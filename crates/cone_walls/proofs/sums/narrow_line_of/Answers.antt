@@ -1,4 +1,4 @@
-use Rattle.std.proofs.Common.{◌≡◌, ◌^◌, rules, sym, subst, ◌∙◌, ap, length}
+use Rattle.std.proofs.Common.{◌≡◌}
 use Rattle.cayley.specs.Stored.{point}
 use Rattle.cone_walls.specs.Numbers.{alpha, beta}
 use Rattle.cone_walls.proofs.RoomAround.{room_wider, line_value, line_fits}

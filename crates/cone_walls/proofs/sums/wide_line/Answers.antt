@@ -1,4 +1,4 @@
-use Rattle.std.proofs.Common.{rules, ◌≡◌, ◌-ℤ◌, ◌*ℤ◌, pos, FitsSigned, to_z-of_z}
+use Rattle.std.proofs.Common.{rules, ◌≡◌, ◌-ℤ◌, ◌*ℤ◌, FitsSigned, to_z-of_z}
 use Rattle.std.specs.Int.{w64, w128}
 use Rattle.int_vectors.specs.Vectors.{sub}
 use Rattle.int_vectors.proofs.BoundSums.{room_fits}

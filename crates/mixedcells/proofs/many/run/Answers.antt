@@ -1,5 +1,5 @@
 use Rattle.std.proofs.Common.{map, string_bytes, rules, refl, subst, IsTrue}
-use Rattle.mixedcells.specs.declared.words.Command.TheVariants.{Plain, List, Sum, Check, Generic, Move, Powers, Poly, Make}
+use Rattle.mixedcells.specs.declared.words.Command.TheVariants.{Plain, List, Sum, Check, Generic, Move, Trace, Verify, Powers, Poly, Make}
 use Rattle.mixedcells.specs.Words.{IsForTeam, IsReading}
 use Rattle.mixedcells.specs.ByMany.{for_one}
 use Rattle.mixedcells.proofs.Exact.{tie_other, cell_other, team_other, comes, ok_other, known}
@@ -123,6 +123,26 @@ pub returns-then-asks_for_team-clause-moves : goal.returns-then-asks_for_team-cl
 returns-then-asks_for_team-clause-moves g c = λ bytes listing second left short means text right generic fits.
     let team : IsForTeam (map string_bytes c.args.words.now) = c.asks_for_team.ensures.0 (search rules) in
     team_command (map string_bytes c.args.words.now) Move team means refl
+
+pub returns-then-asks_for_team-clause-traced : goal.returns-then-asks_for_team-clause-traced
+returns-then-asks_for_team-clause-traced g c = λ bytes left means ok.
+    let team : IsForTeam (map string_bytes c.args.words.now) = c.asks_for_team.ensures.0 (search rules) in
+    team_command (map string_bytes c.args.words.now) Trace team means refl
+
+pub returns-then-asks_for_team-clause-verified : goal.returns-then-asks_for_team-clause-verified
+returns-then-asks_for_team-clause-verified g c = λ bytes left means ok.
+    let team : IsForTeam (map string_bytes c.args.words.now) = c.asks_for_team.ensures.0 (search rules) in
+    team_command (map string_bytes c.args.words.now) Verify team means refl
+
+pub returns-then-asks_for_team-clause-told_log : goal.returns-then-asks_for_team-clause-told_log
+returns-then-asks_for_team-clause-told_log g c = λ bytes log left short means text.
+    let team : IsForTeam (map string_bytes c.args.words.now) = c.asks_for_team.ensures.0 (search rules) in
+    team_command (map string_bytes c.args.words.now) Verify team means refl
+
+pub returns-then-asks_for_team-clause-spares_log : goal.returns-then-asks_for_team-clause-spares_log
+returns-then-asks_for_team-clause-spares_log g c = λ bytes file left means written.
+    let team : IsForTeam (map string_bytes c.args.words.now) = c.asks_for_team.ensures.0 (search rules) in
+    team_command (map string_bytes c.args.words.now) Verify team means refl
 
 pub returns-then-asks_for_team-clause-powers : goal.returns-then-asks_for_team-clause-powers
 returns-then-asks_for_team-clause-powers g c = λ bytes left means ok.

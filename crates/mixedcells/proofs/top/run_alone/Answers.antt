@@ -1,7 +1,7 @@
 use Rattle.std.proofs.Common.{◌≡◌, inr, Some, [], map, string_bytes, ap, arith, refl, rules, false, IsTrue}
 use Rattle.mixedcells.specs.Words.{needs_team}
 use Rattle.mixedcells.specs.Outcomes.{status_of}
-use Rattle.mixedcells.specs.declared.words.Command.TheVariants.{Plain, Check, Generic, Move, Poly, Make}
+use Rattle.mixedcells.specs.declared.words.Command.TheVariants.{Plain, Check, Generic, Move, Verify, Poly, Make}
 use Rattle.mixedcells.proofs.CommandLine.Words.{no_reader, reader, same_team}
 use Rattle.mixedcells.proofs.CommandLine.Ranges.{fits}
 use Rattle.mixedcells.proofs.Ended.{appends_as, usage_cut, usage_written}
@@ -12,6 +12,7 @@ use Rattle.mixedcells.proofs.Judged.{checked, judged, spares, plain_spared, list
 use Rattle.mixedcells.proofs.QuietFiles.{never_unfit, usage_fits, meant_tree_fits, passes}
 use Rattle.mixedcells.proofs.LiftedSystems.{told}
 use Rattle.mixedcells.proofs.Moved as move
+use Rattle.mixedcells.proofs.Verified.{verified, told_log, spares_log}
 use Rattle.mixedcells.proofs.top.run_alone.Goals as goal
 
 pub returns-in-Ok-clause-written : goal.returns-in-Ok-clause-written
@@ -153,6 +154,24 @@ returns-in-Ok-clause-moves g c = λ bytes listing second left short means text r
     move.moves (map string_bytes c.args.words.now) bytes means listing second _ short text right generic fits
     (λ other. let w = returns-in-Ok-clause-written g c other in (w.0, known (map string_bytes c.args.words.now) _ bytes _ _ left w.1))
 
+pub returns-in-Ok-clause-traced : goal.returns-in-Ok-clause-traced
+returns-in-Ok-clause-traced g c = λ bytes left means ok.
+    let w = returns-in-Ok-clause-written g c (ok_other _ ok) in
+    let l = along.traced (map string_bytes c.args.words.now) bytes _ _ w.0 left means ok w.1 in (l.0, l.1, (w.0, l.2, w.2))
+
+pub returns-in-Ok-clause-verified : goal.returns-in-Ok-clause-verified
+returns-in-Ok-clause-verified g c = λ bytes left means ok.
+    let w = returns-in-Ok-clause-written g c (ok_other _ ok) in
+    verified (map string_bytes c.args.words.now) bytes means _ _ w.0 left ok w.1
+
+pub returns-in-Ok-clause-told_log : goal.returns-in-Ok-clause-told_log
+returns-in-Ok-clause-told_log g c = λ bytes log left short means text.
+    told_log (map string_bytes c.args.words.now) bytes means log _ short text (λ other. let w = returns-in-Ok-clause-written g c other in (w.0, known (map string_bytes c.args.words.now) _ bytes _ _ left w.1))
+
+pub returns-in-Ok-clause-spares_log : goal.returns-in-Ok-clause-spares_log
+returns-in-Ok-clause-spares_log g c = λ bytes file left means written.
+    spares_log (map string_bytes c.args.words.now) bytes means file written _ (λ other. let w = returns-in-Ok-clause-written g c other in (w.0, known (map string_bytes c.args.words.now) _ bytes _ _ left w.1))
+
 pub returns-in-Ok-clause-systems : goal.returns-in-Ok-clause-systems
 returns-in-Ok-clause-systems g c = λ bytes seed left short means.
     told seed bytes _ _ _ (map string_bytes c.args.words.now) short means
@@ -261,6 +280,16 @@ returns-then-needs_team-clause-moves g c = λ bytes listing second left short me
     let team : IsTrue (needs_team c.in-Some.command) = search rules in
     no_other (map string_bytes c.args.words.now) c.in-Some.command Move c.in-Some.ensures.meaning team refl means
 
+pub returns-then-needs_team-clause-told_log : goal.returns-then-needs_team-clause-told_log
+returns-then-needs_team-clause-told_log g c = λ bytes log left short means text.
+    let team : IsTrue (needs_team c.in-Some.command) = search rules in
+    no_other (map string_bytes c.args.words.now) c.in-Some.command Verify c.in-Some.ensures.meaning team refl means
+
+pub returns-then-needs_team-clause-spares_log : goal.returns-then-needs_team-clause-spares_log
+returns-then-needs_team-clause-spares_log g c = λ bytes file left means written.
+    let team : IsTrue (needs_team c.in-Some.command) = search rules in
+    no_other (map string_bytes c.args.words.now) c.in-Some.command Verify c.in-Some.ensures.meaning team refl means
+
 pub returns-then-needs_team-clause-systems : goal.returns-then-needs_team-clause-systems
 returns-then-needs_team-clause-systems g c = λ bytes seed left short means.
     let team : IsTrue (needs_team c.in-Some.command) = search rules in
@@ -308,6 +337,12 @@ returns-in-None-clause-move_unfit g c = λ bytes cell left means is. absurd (c.i
 
 pub returns-in-None-clause-moves : goal.returns-in-None-clause-moves
 returns-in-None-clause-moves g c = λ bytes listing second left short means text right generic fits. absurd (c.in-None.ensures.meaning (Move, means))
+
+pub returns-in-None-clause-told_log : goal.returns-in-None-clause-told_log
+returns-in-None-clause-told_log g c = λ bytes log left short means text. absurd (c.in-None.ensures.meaning (Verify, means))
+
+pub returns-in-None-clause-spares_log : goal.returns-in-None-clause-spares_log
+returns-in-None-clause-spares_log g c = λ bytes file left means written. absurd (c.in-None.ensures.meaning (Verify, means))
 
 pub returns-in-None-clause-systems : goal.returns-in-None-clause-systems
 returns-in-None-clause-systems g c = λ bytes seed left short means. absurd (c.in-None.ensures.meaning (Poly seed, means))

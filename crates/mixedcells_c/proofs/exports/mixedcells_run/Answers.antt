@@ -1,5 +1,6 @@
 use Rattle.std.proofs.Common.{ap, refl}
 use Rattle.mixedcells.specs.Outcomes.{status_of}
+use Rattle.mixedcells.specs.Runs.{IsSpared, IsSparedLog}
 use Rattle.mixedcells_c.proofs.Ends as ends
 use Rattle.mixedcells_c.proofs.exports.mixedcells_run.Goals as goal
 
@@ -30,8 +31,11 @@ returns c = let end = c.run_into.ensures in record {
   judged = ends.judged end;
   written_listing = λ means e. let h = ends.ended end e in let l = h.1.written_listing means refl in (l.0, l.1, (h.0, l.2, h.2));
   written_reached = λ means e. let h = ends.ended end e in let l = h.1.written_reached means refl in (l.0, l.1, (h.0, l.2, h.2));
-  spares = λ file means is. ends.spared end (λ o t run. run.spares file means is);
+  spares = λ file means is. ends.spared end (IsSpared c.args.input.now) (λ o t run. run.spares file means is);
   powers = λ means e. let h = ends.ended end e in let l = h.1.powers means refl in (l.0, l.1, l.2, (h.0, l.3, h.2));
+  traced = λ means e. let h = ends.ended end e in let l = h.1.traced means refl in (l.0, l.1, (h.0, l.2, h.2));
+  verified = λ means e. (ends.ended end e).1.verified means refl;
+  spares_log = λ file means is. ends.spared end (IsSparedLog c.args.input.now) (λ o t run. run.spares_log file means is);
   systems = λ seed short means. ends.system_told end seed (λ o t run. run.systems seed short means);
   made = λ family seed means. ends.comes end 0 (λ o t run. ap status_of (run.made family seed means));
   made_text = λ family seed means e. let h = ends.ended end e in (h.0, h.1.made_text family seed means refl, h.2);

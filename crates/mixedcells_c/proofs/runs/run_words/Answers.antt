@@ -5,6 +5,7 @@ use Rattle.listing_text.specs.Listings.{IsListingOf}
 use Rattle.homotopy_rows.specs.Answers.{IsPowersText}
 use Rattle.poly_text.specs.SystemText.{system_of}
 use Rattle.mixedcells.specs.Families.{family_file, lifted_text}
+use Rattle.mixedcells.specs.Logs.{IsTracedText}
 use Rattle.mixedcells.specs.Walks.{IsReachedListing, IsReachedSum, IsSumOf}
 use Rattle.mixedcells.specs.Runs.{IsCalledFor, IsFree, IsWrittenListing}
 use Rattle.mixedcells_c.specs.Buffers.{Grown}
@@ -47,6 +48,9 @@ returns-in_default c =
       needs_team = r.needs_team;
       silent = λ is. c.into_bytes.ensures ∙ ap (λ (s : Grown). s.held) ((r.untouched is).1 ∙ c.new-sink.ensures);
       powers = λ means ok. let l = r.powers input known means ok in (l.0, l.1, l.2, text (IsPowersText l.0) l.3);
+      traced = λ means ok. let l = r.traced input known means ok in (l.0, l.1, text (IsTracedText l.0) l.2);
+      verified = λ means ok. r.verified input known means ok;
+      spares_log = λ file means is. bound_to bound (r.spares_log input file known means is);
       systems = λ seed short means. MatchResult-weaker (system_of input) (bound_to bound (r.systems input seed known short means))
           (λ system h. (h.0, let said = lifted_text seed system in text (λ (t : List ℕ). t ≡ said) (said, refl, h.1))) (λ fault h. h);
       made = λ family seed means. bound_to bound (r.made family seed means);

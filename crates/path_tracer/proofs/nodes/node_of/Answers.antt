@@ -24,4 +24,4 @@ returns-clause-inverse c =
     let p = c.args.problem.now in
     let done : IsEliminated p.dimension (edge_rows p c.args.cell) made = subst (λ m. IsEliminated p.dimension (edge_rows p c.args.cell) m) (sym c.into_reduced-reduced.ensures) c.in-Ok.ensures.answer.0 in
     simp to_z-of_z (node_has p (record { cell = c.args.cell; scale = c.in-Some.scale; inverse = c.in_ok-inverse.inverse }) c.args.cell refl c.of.ensures.valid c.requires.of made c.deref.result.now done (subst (λ z. pos 0 <ℤ z) v.1 q) v.1
-    (c.deref.ensures.value ∙ scale_is made c.in-Ok-columns_of.columns.items c.in-Some.scale 0 v.1 h.1) c.in_ok-inverse.ensures)
+    (c.deref.ensures.value ∙ scale_is made c.in-Ok-columns_of.columns.items c.in-Some.scale 0 v.1 h.1) c.in_ok-inverse.ensures.rows)

@@ -1,14 +1,15 @@
 use Rattle.std.proofs.Common.{rules, ◌≡◌, [], ◌∷◌, ◌++◌, ap, sym, subst, ◌∙◌, reverse}
 use Rattle.int_vectors.specs.Vectors.{Each}
 use Rattle.start_system.proofs.Started.SearchLaws.{started_form}
+use Rattle.searcher.specs.Ends.{IsTiedAtEnd}
 use Rattle.searcher.specs.Expansions.{HasLowestNormal}
 use Rattle.searcher.specs.Searches.{opened, found_in}
 use Rattle.searcher.specs.Workings.{FitsWorking}
 use Rattle.searcher.proofs.Sizes.{size_in, size_in_gives}
 use Rattle.searcher.proofs.Turns.{is_still_problem, well_of, turn_normals, last_left}
 use Rattle.search_team.proofs.Starts.{started_still}
-use Rattle.path_tracer.specs.Nodes.{HasInverse}
-use Rattle.path_tracer.proofs.FurtherPoints.{has_further, branch_fits}
+use Rattle.path_tracer.specs.Nodes.{HasInverse, FitsNumbers}
+use Rattle.path_tracer.proofs.FurtherPoints.{has_further, branch_fits, branch_untied}
 use Rattle.path_tracer.proofs.Walks.{start_of, turn_on, turn_weighs, turn_leads, turn_shrinks, left_begins, each_more, one_step}
 use Rattle.path_tracer.proofs.Ends.{searched, traced, halted}
 use Rattle.path_tracer.proofs.tracing.trace_alone.Goals as goal
@@ -72,6 +73,8 @@ loop-branch-preserved g c =
       normals = subst (λ l. Each l (HasLowestNormal p)) (sym kept) (turn_normals p b e told.2 c.loop-branch.found.items before.normals);
       inverses = each_more (HasInverse p) nodes new node more before.inverses told.1;
       workings = each_more (λ node. FitsWorking p node.cell) nodes new node more before.workings (subst (FitsWorking p) (sym told.0) (branch_fits p b e told.2 begins));
+      fits = each_more FitsNumbers nodes new node more before.fits c.in-Ok-visited.ensures.fits;
+      untied = each_more (λ node. ¬ (IsTiedAtEnd p node.cell)) nodes new node more before.untied (subst (λ cell. ¬ (IsTiedAtEnd p cell)) (sym told.0) (branch_untied p b e told.2 begins));
       left = turn_leads p still b left rest now popped e told.2 begins put given before.left;
       count = one_step c.args.steps.now c.loop-branch.steps c.visited.new.steps nodes new node more c.visited.ensures.step before.count;
     }
@@ -80,4 +83,4 @@ pub returns-clause-answer : goal.returns-clause-answer
 returns-clause-answer g c =
     let none : c.loop-branch.left.items ≡ [] = c.in_default-pop.ensures.items ∙ search rules in
     traced c.args.problem.now c.dim-dim.ensures.valid c.requires.started c.loop-branch.found.items c.loop-branch.left.items (record { nodes = c.loop-branch.nodes; found = c.put_in_order.new.found }) none
-    c.put_in_order.ensures.same c.put_in_order.ensures.order c.loop-branch.invariant.normals c.loop-branch.invariant.balance c.loop-branch.invariant.way c.loop-branch.invariant.inverses c.loop-branch.invariant.workings
+    c.put_in_order.ensures.same c.put_in_order.ensures.order c.loop-branch.invariant.normals c.loop-branch.invariant.balance c.loop-branch.invariant.way c.loop-branch.invariant.inverses c.loop-branch.invariant.fits c.loop-branch.invariant.workings c.loop-branch.invariant.untied

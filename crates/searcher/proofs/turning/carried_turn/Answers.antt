@@ -9,3 +9,12 @@ pub put_ended-answer-requires-clause-end : goal.put_ended-answer-requires-clause
 put_ended-answer-requires-clause-end g c =
     let s = c.in-Some-seek.sought in
     subst (λ z. IsFrontOf c.args.problem.now z s.normal s.front) (c.in-Some.ensures.1 ∙ c.cell.ensures) c.in-Some-seek.ensures.found.2
+
+pub cause_of-requires : goal.cause_of-requires
+cause_of-requires g c = rw c.in-Err.is at c.put_ended-answer.ensures.answer
+
+pub returns-in-Ok-clause-answer : goal.returns-in-Ok-clause-answer
+returns-in-Ok-clause-answer g c = rw c.in-Ok.is at c.put_ended-answer.ensures.answer
+
+pub returns-in-Err-clause-same : goal.returns-in-Err-clause-same
+returns-in-Err-clause-same g c = rw c.in-Err.is at c.put_ended-answer.ensures.same

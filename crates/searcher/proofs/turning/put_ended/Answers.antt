@@ -1,12 +1,8 @@
-use Rattle.std.proofs.Common.{◌∙◌, refl, sym, ap, subst}
-use Rattle.std.specs.Prelude.{Some}
-use Rattle.cayley.specs.Cells.{Cell}
+use Rattle.std.proofs.Common.{refl, sym, subst}
 use Rattle.cayley.specs.Shares.{IsChildren}
 use Rattle.searcher.specs.declared.expansions.Expansion.TheVariants.{Inner}
-use Rattle.searcher.specs.declared.expansions.HaltCause.TheVariants as cause
 use Rattle.searcher.specs.Branches.{branches_of, children_of}
 use Rattle.cone_walls.specs.Fronts.{place_by}
-use Rattle.searcher.specs.Expansions.{IsCause}
 use Rattle.searcher.specs.Workings.{FitsWorking}
 use Rattle.searcher.proofs.MadeEnds.{IsAtPoint, IsAtWall, at_point, at_wall, at_inner, at_no_end, at_tie, ends_never, ends_one, ends_two}
 use Rattle.searcher.proofs.TurnAnswers.{mixed_turned}
@@ -69,6 +65,8 @@ pub returns-in-Two-clause-answer : goal.returns-in-Two-clause-answer
 returns-in-Two-clause-answer c =
     let p = c.args.problem.now in
     let b = c.args.branch.now in
-    let k = c.tie_between.ensures in
-    let h = at_tie p b c.dim-dim.ensures.valid.shape.problem c.requires.settled c.args.normal c.requires.untied k.0 (place_by c.in-Two.fall) (place_by c.in-Two.other) (ends_two p b.cell c.args.normal c.args.front.now c.in-Two.fall c.in-Two.other c.in-Two.is c.requires.end k.0 k.1) in
-    subst (λ z. IsCause p b (cause.Tie z)) (sym (k.2 ∙ ap (λ (z : Cell). record { cell = z; time = k.0; first = place_by c.in-Two.fall; second = Some (place_by c.in-Two.other) }) c.cell.ensures)) h
+    let f = rw c.in-Two.is at c.requires.falls in (
+      f.0,
+      λ u t.
+          at_tie p b c.dim-dim.ensures.valid.shape.problem c.requires.settled c.args.normal c.requires.untied u (place_by c.in-Two.fall) (place_by c.in-Two.other) (ends_two p b.cell c.args.normal c.args.front.now c.in-Two.fall c.in-Two.other c.in-Two.is c.requires.end u t),
+    )

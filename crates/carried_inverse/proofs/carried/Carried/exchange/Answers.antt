@@ -15,7 +15,7 @@ invariant_of-self c =
     let fs : FitsSigned w64 c.self.inside.den = search rules in
     let i = c.self.invariant in
     let v = ap (λ (a : Inverse). length a.columns) c.self.view_is in
-    let h = simp to_z-of_z at c.in-Made.ensures.step in
+    let h = (simp to_z-of_z at c.in-Made.ensures.step).0 in
     let below : c.args.place < length c.self.inside.columns.items = let p = c.requires.place in omega (arith, p, v) in
     let l = made_long (length c.self.inside.columns.items) c.args.place c.self.inside.den (map (dot c.args.row.now) c.self.inside.columns.items) c.self.inside.columns.items c.exchange_step.new.columns.items c.in-Made.den
     below refl (length-map c.self.inside.columns.items (dot c.args.row.now)) i.1 h in
@@ -27,8 +27,8 @@ invariant_of-self c =
       subst (λ n. Each c.exchange_step.new.columns.items (λ column. length column ≡ n)) (sym l.0) l.1,
       s ∙ i.2 ∙ sym l.0,
       k ∙ i.3 ∙ sym l.0,
-      (simp to_z-of_z at c.greatest_of-self-inside.ensures.den),
-      subst (λ (xs : List (List ℤ)). Each xs (Within c.greatest_of-self-inside.result)) c.deref.ensures.value c.greatest_of-self-inside.ensures.columns,
+      (simp to_z-of_z at c.settled-self-inside.ensures.den),
+      subst (λ (xs : List (List ℤ)). Each xs (Within c.settled-self-inside.result)) c.deref.ensures.value c.settled-self-inside.ensures.columns,
       c.in-Made.ensures.spare_count ∙ sym l.0,
       subst (λ n. Each c.exchange_step.new.spare.items (λ column. length column ≡ n)) (sym l.0) c.in-Made.ensures.spare_long,
     )
@@ -45,7 +45,7 @@ pub returns-in-Made : goal.returns-in-Made
 returns-in-Made c =
     let fd : FitsSigned w64 c.in-Made.den = search rules in
     let fs : FitsSigned w64 c.self.inside.den = search rules in
-    let h = simp to_z-of_z at c.in-Made.ensures.step in
+    let h = (simp to_z-of_z at c.in-Made.ensures.step).0 in
     let v = ap (λ (a : Inverse). length a.columns) c.self.view_is in
     let below : c.args.place < length c.self.inside.columns.items = let p = c.requires.place in omega (arith, p, v) in
     let old : Inverse = record { den = c.self.inside.den; columns = c.self.inside.columns.items } in

@@ -1,1 +1,0 @@
-use Rattle.cone_walls.proofs.endings.end_at.Goals as goal

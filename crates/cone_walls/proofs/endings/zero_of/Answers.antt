@@ -1,1 +1,0 @@
-use Rattle.cone_walls.proofs.endings.zero_of.Goals as goal
