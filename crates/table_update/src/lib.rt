@@ -8,3 +8,6 @@ mod table;
 pub use kept::Kept;
 pub use reduced_rows::ReduceFault;
 pub use table::Table;
+
+#[cfg(test)]
+mod tests;

@@ -35,8 +35,8 @@ fn first_with(rows: &[IntVec], k: usize) -> Option<usize>
     requires { Each rows.now (λ row. k < length row) }
     ensures { IfSome result (λ i. IsFirst k i rows.now) }
 {
-    for (i, row) in rows.iter().enumerate() {
-        if row.get(k) != 0 {
+    for (i, other) in rows.iter().enumerate() {
+        if other.get(k) != 0 {
             return Some(i);
         }
     }
